@@ -1,0 +1,11 @@
+pub mod Turns
+pub mod Values
+pub mod Bytes
+pub mod Ahead
+pub mod Split
+pub mod Lined
+pub mod Faults
+pub mod Strays
+pub mod Verdict
+pub mod Table
+pub mod Answered

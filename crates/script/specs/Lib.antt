@@ -1,0 +1,11 @@
+pub mod Words
+pub mod Numbers
+pub mod Tokens
+pub mod Places
+pub mod Lines
+pub mod Refusals
+pub mod Checks
+pub mod Surveys
+pub mod Scan
+pub mod Reading
+pub mod Laws
