@@ -1,5 +1,7 @@
 pub mod Turns
 pub mod Values
+pub mod Spelt
+pub mod Written
 pub mod Bytes
 pub mod Ahead
 pub mod Split

@@ -1,5 +1,7 @@
 pub mod Words
+pub mod Spelling
 pub mod Numbers
+pub mod Numerals
 pub mod Tokens
 pub mod Places
 pub mod Lines

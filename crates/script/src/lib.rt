@@ -9,6 +9,7 @@ mod words;
 
 pub use numbers::Number;
 pub use numbers::digits_bounded;
+pub use numbers::numerals_read;
 pub use places::Cursor;
 pub use places::Place;
 pub use reading::Draft;
@@ -19,3 +20,4 @@ pub use refusals::Refusal;
 pub use tokens::Field;
 pub use tokens::Token;
 pub use words::Word;
+pub use words::words_spelled;

@@ -2,6 +2,7 @@
 ghost use mathlib.Core.Path.{_≡_};
 ghost use denote.Ref.{now};
 ghost use Rattle.std.specs.shelf.Text.{sameBytes};
+ghost use Rattle.script.specs.Spelling.{Spelled, Words-spelled, Words-known};
 ghost use Rattle.script.specs.Words.{line-word, operator, word-of, is-item, is-one};
 
 // The eight words that begin a line.
@@ -100,7 +101,8 @@ fn operator_of(bytes: &[u8]) -> Option<Operator>
 
 // The reserved word that these bytes spell.
 pub fn word_of(bytes: &[u8]) -> Option<Word>
-    ensures { λ r. ⌜ r ≡ word-of (now (bytes .entry)) ⌝ }
+    ensures word { λ r. ⌜ r ≡ word-of (now (bytes .entry)) ⌝ }
+    ensures letters { λ r. ⌜ Spelled (now (bytes .entry)) r ⌝ }
 {
     if let Some(word) = line_word(bytes) {
         return Some(Word::Line(word));
@@ -135,4 +137,12 @@ impl Word {
             _ => false,
         }
     }
+}
+
+// Bytes spell a reserved word exactly where they are its letters, and each of the eighteen is so spelled.
+pub fn words_spelled() -> u8
+    ensures law { λ _. ⌜ Words-spelled ⌝ }
+    ensures known { λ _. ⌜ Words-known ⌝ }
+{
+    0
 }
