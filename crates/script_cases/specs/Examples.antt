@@ -9,8 +9,8 @@ use Rattle.script.specs.declared.refusals.Refusal.{Refusal}
 use Rattle.script.specs.declared.refusals.Reason.the-variants.{TextTooLong, NoLineFeedAtEnd, StrayByte, NoLineWord, FieldCount, FieldForm, TableTooShort}
 use Rattle.script.specs.Refusals.{refused, number-of}
 use Rattle.script.specs.Reading.{read-of}
-use Rattle.cases.specs.declared.Answer.{Answer}
-use Rattle.cases.specs.declared.Answer.the-variants as answer
+use Rattle.script_cases.specs.declared.Answer.{Answer}
+use Rattle.script_cases.specs.declared.Answer.the-variants as answer
 
 -- the answer of a reading by its numbers
 abbrev pub answer-of : Result (ℕ × ℕ) Refusal → Answer

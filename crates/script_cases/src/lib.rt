@@ -3,7 +3,7 @@ ghost use mathlib.Core.Path.{_≡_};
 ghost use denote.Ref.{now};
 ghost use lib.ListN.{length};
 ghost use Rattle.script.specs.Reading.{read-of};
-ghost use Rattle.cases.specs.Examples.{answer-of, Examples};
+ghost use Rattle.script_cases.specs.Examples.{answer-of, Examples};
 use script::Entry;
 use script::read;
 
