@@ -1,0 +1,4 @@
+-- Lemmas of reading and answering.
+pub mod Texts
+pub mod Exactness
+pub mod Stand

@@ -1,0 +1,7 @@
+-- Comparing a word.
+use borrow.Author.Needs.{needs}
+use Rattle.std.proofs.shelf.Equals.{sameBytes-decides}
+use Rattle.calculator.proofs.reading.is.Needs as need
+
+pub returns : need.returns
+returns c = search (needs, sameBytes-decides)

@@ -1,0 +1,4 @@
+-- The three kinds.
+pub mod Fractions
+pub mod Thousandths
+pub mod Small

@@ -1,0 +1,4 @@
+// Three kinds of number: fractions, thousandths and small whole numbers.
+pub mod fractions;
+pub mod small;
+pub mod thousandths;
