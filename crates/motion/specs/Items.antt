@@ -75,13 +75,13 @@ abbrev pub combined : Connective → Bool → Bool → Bool
 combined and a b = a && b
 combined or a b = a || b
 
--- what waits at the end, as one number
+-- what waits at the end, as one number; the items of a checked script leave nothing below it
 abbrev pub as-number : {V : Type 0} → List (Value V) → Got V
 as-number [] = bad 14 0
 as-number (truth b ∷ r) = bad 14 0
 as-number (num q ∷ r) = good q
 
--- what waits at the end, as one truth
+-- what waits at the end, as one truth, likewise
 abbrev pub as-truth : {V : Type 0} → List (Value V) → Got Bool
 as-truth [] = bad 14 0
 as-truth (num b ∷ r) = bad 14 0
