@@ -78,6 +78,17 @@ fn accepted() -> Result<(), Fail> {
     )
 }
 
+// The two whole scripts that the format is explained by.
+#[test]
+fn format_examples() -> Result<(), Fail> {
+    let ramp: &[u8] =
+        b"var,p,0\nvar,v,0\nrun,10\nrate,p,1,v\nrate,v,2,one\nrun,10\nrate,p,1,v\nrate,v,-2,one\n";
+    check_eq(full(ramp), Answer::Read(8, 26))?;
+    let throws: &[u8] =
+        b"var,p,0\nvar,v,0\nvar,a,0\nvar,n,3\nwhile,0,n,lt\nif,n,1,le\nset,a,1/5\nelse\nset,a,2/5\nend\nrun,10\nrate,p,1,v\nrate,v,1,a\nrun,20\nrate,p,1,v\nrate,v,-1,a\nrun,10\nrate,p,1,v\nrate,v,1,a\nset,n,n,1,sub\nend\nrun,50\n";
+    check_eq(full(throws), Answer::Read(22, 66))
+}
+
 #[test]
 fn the_whole_text() -> Result<(), Fail> {
     all(
