@@ -21,6 +21,7 @@ pub mod FlowLaw
 pub mod Solution
 pub mod Answering
 pub mod Stretches
+pub mod NameChains
 pub mod Pairs
 pub mod Promise
 pub mod Marked

@@ -15,6 +15,7 @@ pub mod Cuts
 pub mod FlowLaw
 pub mod Solution
 pub mod Stretches
+pub mod NameChains
 pub mod Remaining
 pub mod Agreement
 pub mod Lasting

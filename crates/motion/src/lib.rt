@@ -4,6 +4,7 @@ ghost use Rattle.motion.specs.Determinism.{Deterministic, One-rest, One-standi
 ghost use Rattle.motion.specs.FlowLaw.{Flow-law};
 ghost use Rattle.motion.specs.Solution.{Stretch-solved, Stretch-solved-exactly, Stretch-solved-once, Stretch-flows, Solution-flows, Stretch-runs};
 ghost use Rattle.motion.specs.Stretches.{Stretch-examples};
+ghost use Rattle.motion.specs.NameChains.{Chains-ruled, Rule-kept, Repeats-alike, Chain-examples};
 ghost use Rattle.motion.specs.Agreement.{Follows-rules};
 ghost use Rattle.motion.specs.Cuts.{Cut-stop, Cut-end, Cut-err};
 ghost use Rattle.motion.specs.Carriers.{Simulation-by};
@@ -81,6 +82,28 @@ pub fn stretch_examples()
 // D5 is 0 where no walk has five names; where D5 is 0, n ticks and then m are n + m ticks.
 pub fn flow_adds()
     ensures { λ _. ⌜ Flow-law ⌝ }
+{}
+
+// Chains of names in a stretch.
+
+// Some chain of different names returns to its start or has more than 4 names exactly where there is a walk of five names.
+pub fn chains_ruled()
+    ensures { λ _. ⌜ Chains-ruled ⌝ }
+{}
+
+// So no walk has five names exactly where every such chain keeps the rule.
+pub fn rule_kept()
+    ensures { λ _. ⌜ Rule-kept ⌝ }
+{}
+
+// It is the same rule for chains in which a name may stand twice.
+pub fn repeats_alike()
+    ensures { λ _. ⌜ Repeats-alike ⌝ }
+{}
+
+// The rule at five stretches: two names in a row, four, five, a circle of one and a circle of two.
+pub fn chain_examples()
+    ensures { λ _. ⌜ Chain-examples ⌝ }
 {}
 
 // A run that is cut.
