@@ -19,5 +19,7 @@ pub use refusals::Reason;
 pub use refusals::Refusal;
 pub use tokens::Field;
 pub use tokens::Token;
+pub use words::LineWord;
+pub use words::Operator;
 pub use words::Word;
 pub use words::words_spelled;

@@ -1,0 +1,12 @@
+pub mod Turns
+pub mod Piles
+pub mod Splits
+pub mod LaidOut
+pub mod Marked
+pub mod Parts
+pub mod DeepRuns
+pub mod Compared
+pub mod Decoded
+pub mod Alike
+pub mod Passing
+pub mod Owned
