@@ -161,9 +161,9 @@ impl<K> Checked<'_, '_, K> {
 
     // How many lines it has.
     pub fn lines(&self) -> usize
-        ensures { λ r. ⌜ r ≡ now (self .entry) .plan .rows .count ⌝ }
+        ensures { λ r. ⌜ r ≡ length (lines (now (now (self .entry) .table))) ⌝ }
     {
-        self.plan.rows.count
+        count_lines(self.table)
     }
 }
 

@@ -1,26 +1,36 @@
-// Scripts and what checking them for a kind answers.
-use check::check;
+// Texts and what checking them answers.
+ghost use mathlib.Core.Path.{_≡_};
+ghost use denote.Ref.{now};
+ghost use Rattle.check_listing.specs.Answers.{answer-to};
+ghost use Rattle.check_cases.specs.Answers.{with-room, answers};
+use check_listing::answers::Answer;
+use check_listing::answers::answer_to;
+use kinds::fractions::Fractions;
+use kinds::fractions::FractionsKind;
+use kinds::small::SmallWholes;
+use kinds::small::SmallWholesKind;
+use kinds::thousandths::Thousandths;
+use kinds::thousandths::ThousandthsKind;
 use number::Kind;
 use script::Entry;
-use script::read;
 
-// The answer of a check: the numbers of variables and lines, or the number, line and field of the refusal.
-#[derive(Clone, Copy, PartialEq, Eq, Debug)]
-pub enum Answer {
-    NotRead(u8),
-    Passed(usize, usize),
-    Refused(u8, usize, usize),
+// The answer for a kind, with room for 256 fields.
+pub fn answer_in<K: Kind>(text: &[u8]) -> Answer
+    ensures { λ r. ⌜ r ≡ with-room (K·Kind .means) (K·Kind .code) (now (text .entry)) ⌝ }
+{
+    let mut table = [Entry::BLANK; 256];
+    answer_to::<K>(text, &mut table)
 }
 
-pub fn answer_to<K: Kind>(text: &[u8], table: &mut [Entry]) -> Answer {
-    let draft = match read(text, table) {
-        Ok(draft) => draft,
-        Err(refusal) => return Answer::NotRead(refusal.reason.number()),
-    };
-    match check::<K>(draft, table) {
-        Ok(script) => Answer::Passed(script.variables(), script.lines()),
-        Err((_, refusal)) => Answer::Refused(refusal.reason.number(), refusal.line, refusal.field),
-    }
+// The answers for fractions, thousandths and small whole numbers.
+pub fn answers_to(text: &[u8]) -> (Answer, Answer, Answer)
+    ensures { λ r. ⌜ r ≡ answers (now (text .entry)) ⌝ }
+{
+    (
+        answer_in::<Fractions>(text),
+        answer_in::<Thousandths>(text),
+        answer_in::<SmallWholes>(text),
+    )
 }
 
 #[cfg(test)]
