@@ -10,3 +10,6 @@ pub mod Decoded
 pub mod Alike
 pub mod Passing
 pub mod Owned
+pub mod Nested
+pub mod Accepted
+pub mod Worked

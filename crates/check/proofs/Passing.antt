@@ -33,18 +33,15 @@ use Rattle.check.specs.declared.lines.Past.{Past}
 use Rattle.check.specs.Refusals.{refused}
 use Rattle.check.specs.Fields.{lines, unheld, first-word}
 use Rattle.check.specs.Conditions.{head-of, second-place, refused-at, refused-if, var-misplaced, variable, with-name, with-other, declare, after-var, first-unknown, rate-misplaced, rate-on, in-stretch, after-rate, innermost, opened, served, closed, after-block, items-wrong, line-by, line-check, lines-check, at-first, declared-names}
-use Rattle.check.specs.Decoding.{var-name, names-of, line-of, script-of, place-of, rows-lines}
+use Rattle.check.specs.Decoding.{var-name, names-of, line-of}
 use Rattle.check.specs.Chains.{is-empty, is-deep, deep-first, chains-check}
-use Rattle.check.specs.declared.checking.Plan.{Plan}
-use Rattle.check.specs.declared.rows.Row.{Row}
 use Rattle.check.specs.Tables.{same-table}
-use Rattle.check.specs.Checking.{other-table, open-check, Planned, Passed}
-use Rattle.check.specs.Laws.{Line-passes, Shallow-runs, none, more, Good}
+use Rattle.check.specs.Checking.{other-table, open-check}
+use Rattle.check.specs.Laws.{Line-passes, Shallow-runs, none, more}
 use Rattle.check.proofs.Owned.{table-own, same-code}
-use Rattle.check.proofs.Decoded.{decoded}
 
 -- an answer that goes on
-then-ok : {A B : Type 0} (r : Result A Refusal) (f : A → Result B Refusal) (b : B) → andThen r f ≡ Ok b → (a : A) × (r ≡ Ok a) × (f a ≡ Ok b)
+pub then-ok : {A B : Type 0} (r : Result A Refusal) (f : A → Result B Refusal) (b : B) → andThen r f ≡ Ok b → (a : A) × (r ≡ Ok a) × (f a ≡ Ok b)
 then-ok (Ok a) f b e = (a, refl, e)
 then-ok (Err x) f b e = let z : _≡_ {A = ℕ} 0 1 = cc in absurd (omega arith)
 
@@ -56,7 +53,7 @@ if-false : (b : Bool) (reason : Reason) (n k : ℕ) → refused-if b reason n k 
 if-false false reason n k e = refl
 if-false true reason n k e = let z : _≡_ {A = ℕ} 0 1 = cc in absurd (omega arith)
 
-passes-by : {A : Type 0} (b : Bool) (x : Refusal) (r q : A) → _≡_ {A = Result A Refusal} (cond b (Err x) (Ok r)) (Ok q) → (b ≡ false) × (r ≡ q)
+pub passes-by : {A : Type 0} (b : Bool) (x : Refusal) (r q : A) → _≡_ {A = Result A Refusal} (cond b (Err x) (Ok r)) (Ok q) → (b ≡ false) × (r ≡ q)
 passes-by false x r q e = (refl, cc)
 passes-by true x r q e = let z : _≡_ {A = ℕ} 0 1 = cc in absurd (omega arith)
 
@@ -212,7 +209,7 @@ module _ (means : Pair → Option Frac) (code : Frac → Option Pair) (text : Li
       let h = line-passes means code text p (first-word (head-of l .token)) (head-of l .place .line) l (a .0) (a .1) in
       (h .held, lines-held (a .0) ls q (a .2))
 
-closed-depth : (p : Past) → open-check p ≡ Ok tt → p .depth ≡ 0
+pub closed-depth : (p : Past) → open-check p ≡ Ok tt → p .depth ≡ 0
 closed-depth p e = by (eqb (p .depth) 0) refl e
   where
     by : (b : Bool) → eqb (p .depth) 0 ≡ b → _≡_ {A = Result Unit Refusal} (cond b (Ok tt) (Err (refused Blocks (innermost p .line) 0))) (Ok tt) → p .depth ≡ 0
@@ -234,22 +231,3 @@ own-table text fields table h =
     let b = both-false (ltb 4608 fields) _ (a .1) in
     let c = both-false (not (same-table text (places text) (take fields table))) _ (b .1) in
     table-own text (places text) (take fields table) (not-true (same-table text (places text) (take fields table)) (c .0))
-
--- a script that passed is good
-pub good : (means : Pair → Option Frac) (code : Frac → Option Pair) (text : List ℕ) (es : List Entry) (p : Plan) → es ≡ entries text → Planned text es p → Passed means code text es (p .past) → Good means code text es p
-good means code text es p o h g =
-    let ns : declared-names (p .past) ≡ names-of (lines es) = lines-names means code text at-first (lines es) (p .past) refl (g .every-line) in
-    let ds : map (line-of text (declared-names (p .past))) (lines es) ≡ script-of text (lines es) = ap (λ (v : List Place). map (line-of text v) (lines es)) ns in
-    record {
-      own = o;
-      names = ns;
-      rows =
-          ap (λ (xs : List ℕ). rows-lines es xs (take (p .rows .count) (p .rows .rows))) (h .places)
-          ∙ ap (λ (rs : List Row). rows-lines es (map (place-of text (declared-names (p .past))) es) rs) (h .rows)
-          ∙ decoded text (declared-names (p .past)) es
-          ∙ ds;
-      passes = g .every-line;
-      closed = closed-depth (p .past) (g .closed);
-      held = lines-held means code text at-first (lines es) (p .past) (g .every-line);
-      shallow = subst Shallow-runs ds (runs-shallow 1 _ (g .every-run));
-    }

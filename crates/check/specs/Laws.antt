@@ -1,6 +1,6 @@
 -- What holds of scripts that are checked, in the words of the format. Assumes nothing.
 use mathlib.Core.Path.{_≡_}
-use mathlib.Core.Logic.{_⊎_}
+use mathlib.Core.Logic.{_⊎_, _↔_}
 use mathlib.Core.Bool.{Bool, true, false}
 use mathlib.Core.List.{List, [], _∷_, _++_, map}
 use Prim.Native.Nat.{ℕ}
@@ -16,7 +16,9 @@ use Rattle.script.specs.Reading.{entries}
 use Rattle.number.specs.declared.Pair.{Pair}
 use Rattle.number.specs.Frac.{Frac}
 use Rattle.motion.specs.Lines.{Line, run-line, Item}
-use Rattle.motion.specs.Chains.{Shallow}
+use Rattle.motion.specs.Program.{Prog}
+use Rattle.motion.specs.Rules.{Program-of}
+use Rattle.motion.specs.Chains.{Shallow, Shallows}
 use Rattle.motion.specs.NextLine.{rates}
 use Rattle.check.specs.declared.refusals.Reason.{Reason}
 use Rattle.check.specs.declared.refusals.Reason.the-variants.{OtherTable, VarOutOfPlace, NameNotDeclared, NumberNotHeld, RateOutOfPlace, Blocks, Items, Chains}
@@ -24,7 +26,7 @@ use Rattle.check.specs.declared.refusals.Refusal.{Refusal}
 use Rattle.check.specs.declared.lines.Past.{Past}
 use Rattle.check.specs.Refusals.{refused}
 use Rattle.check.specs.Fields.{lines, unheld}
-use Rattle.check.specs.Conditions.{second-place, after-var, first-unknown, variable, after-rate, after-block, items-wrong, at-first, lines-check, declared-names}
+use Rattle.check.specs.Conditions.{second-place, after-var, first-unknown, variable, after-rate, after-block, items-wrong, line-by, at-first, lines-check, declared-names}
 use Rattle.check.specs.Decoding.{names-of, line-of, script-of, rows-lines}
 use Rattle.check.specs.Checking.{check-of}
 use Rattle.check.specs.declared.checking.Plan.{Plan}
@@ -60,6 +62,12 @@ pub record Line-passes (means : Pair → Option Frac) (code : Frac → Option Pa
   pub nested : after-block rated w n ≡ Ok q
   pub items : items-wrong w line ≡ false
 
+-- So it is exactly where the definition of the check lets it pass.
+abbrev pub Lines-judged : Type 0
+Lines-judged =
+    (means : Pair → Option Frac) (code : Frac → Option Pair) (text : List ℕ) (p : Past) (w : LineWord) (n : ℕ) (line : List Entry) (q : Past) →
+    (line-by means code text p w n line ≡ Ok q) ↔ Line-passes means code text p w n line q
+
 -- An accepted script --------------------------------------------------------------
 
 -- no run of these lines has a walk of five names among its rates
@@ -82,3 +90,7 @@ pub record Good (means : Pair → Option Frac) (code : Frac → Option Pair) (te
   pub held : All (λ l. unheld means code l ≡ None) (lines es)
   -- no run has a walk of five names among its rates
   pub shallow : Shallow-runs (script-of text (lines es))
+  -- behind the var lines its lines spell a nested program, of which every stretch is shallow
+  pub program : Prog
+  pub spelled : Program-of (script-of text (lines es)) program
+  pub smooth : Shallows program

@@ -7,3 +7,4 @@ pub mod Chains
 pub mod Tables
 pub mod Checking
 pub mod Laws
+pub mod Running

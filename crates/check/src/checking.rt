@@ -11,7 +11,8 @@ ghost use Rattle.check.specs.Fields.{lines};
 ghost use Rattle.check.specs.Conditions.{Kept, declared-names};
 ghost use Rattle.check.specs.Decoding.{rows-lines, line-of};
 ghost use Rattle.check.specs.Chains.{chains-check};
-ghost use Rattle.check.specs.Laws.{Kinds-differ-by-numbers, Good};
+ghost use Rattle.check.specs.Running.{Items-sorted};
+ghost use Rattle.check.specs.Laws.{Kinds-differ-by-numbers, Lines-judged, Good};
 ghost use Rattle.check.specs.Checking.{other-table, open-check, entries-check, check-of, outcome, answer-of, Planned, Passed};
 use crate::chains::check_chains;
 use crate::fields::line_end;
@@ -170,4 +171,15 @@ impl<K> Checked<'_, '_, K> {
 // The check for one kind differs from that for another only by the numbers that they hold.
 pub fn kinds_differ_by_numbers()
     ensures { λ _. ⌜ Kinds-differ-by-numbers ⌝ }
+{}
+
+// Items that keep their rules break none when they are worked out, in any numbers: they come to values of the sorts that the
+// check found, or are refused by 21 or 23.
+pub fn items_sorted<V>()
+    ensures { λ _. ⌜ Items-sorted V ⌝ }
+{}
+
+// A line passes exactly where none of the conditions 9 to 14 holds.
+pub fn lines_judged()
+    ensures { λ _. ⌜ Lines-judged ⌝ }
 {}

@@ -10,6 +10,8 @@ mod tables;
 
 pub use checking::Checked;
 pub use checking::check;
+pub use checking::items_sorted;
 pub use checking::kinds_differ_by_numbers;
+pub use checking::lines_judged;
 pub use refusals::Reason;
 pub use refusals::Refusal;

@@ -1,7 +1,8 @@
 use mathlib.Core.Path.{_≡_, sym}
 use lib.ListN.{take}
 use borrow.Author.Needs.{needs}
-use Rattle.check.proofs.Passing.{good, own-table}
+use Rattle.check.proofs.Passing.{own-table}
+use Rattle.check.proofs.Accepted.{good}
 use Rattle.check.proofs.checking.check.Needs as need
 
 pub returns-in-Ok : need.returns-in-Ok
