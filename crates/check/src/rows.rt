@@ -17,9 +17,6 @@ use script::Entry;
 use script::LineWord;
 use script::Place;
 
-// The most fields of a script.
-pub const MOST_FIELDS: usize = 4608;
-
 // The place of the name that stands there among these; 16 where it is none of them.
 fn place_at(text: &[u8], names: &[Place], at: Place) -> u8
     requires { ⌜ length (now names) ≤ 16 ⌝ }
