@@ -21,9 +21,9 @@ use Rattle.motion.specs.Pairs.{Meant}
 use Rattle.entries.specs.declared.rows.Row.{Row}
 use Rattle.entries.specs.Fields.{signed, not_held, pair_of_number, is_err}
 use Rattle.entries.specs.Decoding.{frac_of_number, coefficient_of, value_of, part, line_by, row_line, rows_lines}
-use Rattle.check.specs.declared.checking.Checked.{Checked}
-use Rattle.check.specs.Scripts.{table_in, places_in, rows_in, lines_in, Sound}
-use Rattle.check.proofs.LaidOver.{laid}
+use Rattle.checker.specs.declared.checking.Checked.{Checked}
+use Rattle.checker.specs.Scripts.{table_in, places_in, rows_in, lines_in, Sound}
+use Rattle.checker.proofs.LaidOver.{laid}
 use Rattle.bench.specs.Built.{or_nothing, held_pair, first_values, value_in}
 
 -- the first line that is not var comes behind the declared values

@@ -19,8 +19,8 @@ use Rattle.motion.proofs.Lasting.{persist, numbers_agree}
 use Rattle.motion.proofs.Refusals.{refusals_told}
 use Rattle.record.specs.declared.Bench.{Bench}
 use Rattle.record.specs.Benches.{bench_of}
-use Rattle.check.specs.declared.checking.Checked.{Checked}
-use Rattle.check.specs.Scripts.{lines_in, Sound}
+use Rattle.checker.specs.declared.checking.Checked.{Checked}
+use Rattle.checker.specs.Scripts.{lines_in, Sound}
 use Rattle.bench.specs.Built.{first_values}
 use Rattle.bench.specs.Calls.{fitting, advanced}
 use Rattle.bench.specs.Laws.{Stood, AdvancesOnCurve, AdvanceTold, not_fitting, fits, Lasts}

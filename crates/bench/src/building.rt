@@ -5,11 +5,11 @@ ghost use Rattle.motion.specs.NextLine.{declared};
 ghost use Rattle.motion.specs.Carriers.{Each};
 ghost use Rattle.motion.specs.Pairs.{Meant};
 ghost use Rattle.entries.specs.Decoding.{part, value_of, coefficient_of};
-ghost use Rattle.check.specs.Scripts.{table_in, rows_in, lines_in, Sound};
+ghost use Rattle.checker.specs.Scripts.{table_in, rows_in, lines_in, Sound};
 ghost use Rattle.record.specs.Benches.{pairs_of, bench_of};
 ghost use Rattle.bench.specs.Built.{held_pair, first_values, value_in};
 
-use check::Checked;
+use checker::Checked;
 use entries::{Row, between};
 use number::{Kind, Pair};
 use record::{Bench, Values};

@@ -4,7 +4,7 @@ ghost use Rattle.motion.specs.Lines.{Line};
 ghost use Rattle.motion.specs.Rules.{Standing, Curve};
 ghost use Rattle.motion.specs.Items.{nth};
 ghost use Rattle.motion.specs.Pairs.{numbers_of};
-ghost use Rattle.check.specs.Scripts.{lines_in, variable_in, Sound};
+ghost use Rattle.checker.specs.Scripts.{lines_in, variable_in, Sound};
 ghost use Rattle.record.specs.Benches.{pairs_of, bench_of};
 ghost use Rattle.handover.specs.Lines.{line_of, copied};
 ghost use Rattle.handover.specs.Takes.{taken_up, plainly};
@@ -13,7 +13,7 @@ ghost use Rattle.bench.specs.Calls.{fitting, told, advanced, kept_if_refused, un
 ghost use Rattle.bench.specs.Laws.{OnCurve, AdvancesOnCurve, AdvanceTold, Lasts, ReadsCurve, WrittenBack, TakenExactly, JointOnCurve};
 
 use crate::fitting::fits;
-use check::Checked;
+use checker::Checked;
 use entries::between;
 use handover::{take_line, write_line};
 use number::{Kind, Pair};

@@ -3,11 +3,11 @@ ghost use Rattle.std.specs.Prelude.{◌≡◌, ℕ, ◌≤◌, true, ◌==◌};
 ghost use Rattle.motion.specs.NextLine.{line_at, first_line};
 ghost use Rattle.motion.specs.Pairs.{numbers_of};
 ghost use Rattle.motion.specs.Fitting.{answered, all_numbers, is_run, as_new, in_stretch, at_end, counts_small};
-ghost use Rattle.check.specs.Scripts.{lines_in, Laid, Sound};
+ghost use Rattle.checker.specs.Scripts.{lines_in, Laid, Sound};
 ghost use Rattle.record.specs.Benches.{bench_of};
 ghost use Rattle.bench.specs.Calls.{run_by, valued, placed, fitting};
 
-use check::Checked;
+use checker::Checked;
 use entries::between;
 use number::{Kind, Pair};
 use record::Bench;

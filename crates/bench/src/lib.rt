@@ -1,4 +1,6 @@
 // The bench: five calls on a checked script's exact curve.
+#![tactic(auto)]
+
 mod building;
 mod calls;
 mod fitting;

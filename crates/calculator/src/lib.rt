@@ -1,4 +1,6 @@
 // Answers questions to a kind of number, one line of text each.
+#![tactic(auto)]
+
 ghost use Rattle.std.specs.Prelude.{◌≡◌, IfOk, string_bytes};
 ghost use Rattle.calculator.specs.Answering.{Exact, replied_in};
 ghost use Rattle.calculator.specs.Theorems.{Agree, Examples};

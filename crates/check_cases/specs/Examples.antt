@@ -3,10 +3,10 @@ use Rattle.std.specs.Prelude.{ℕ, List, [], length, codes}
 use Rattle.script.specs.Reading.{entries}
 use Rattle.kinds.specs.Fractions.{frac_of, pair_of}
 use Rattle.kinds.specs.Thousandths.{thousand_of, count_of}
-use Rattle.check.specs.declared.refusals.Reason.TheVariants.{OtherTable, VarOutOfPlace, NameNotDeclared, NumberNotHeld, RateOutOfPlace, Blocks, Items, Chains}
-use Rattle.check.specs.declared.refusals.Refusal.{Refusal}
-use Rattle.check.specs.Refusals.{refused}
-use Rattle.check.specs.Verdict.{Accepted, Refused}
+use Rattle.checker.specs.declared.refusals.Reason.TheVariants.{OtherTable, VarOutOfPlace, NameNotDeclared, NumberNotHeld, RateOutOfPlace, Blocks, Items, Chains}
+use Rattle.checker.specs.declared.refusals.Refusal.{Refusal}
+use Rattle.checker.specs.Refusals.{refused}
+use Rattle.checker.specs.Verdict.{Accepted, Refused}
 
 -- a text with its own entries is accepted in fractions
 abbrev pub Accepts : List ℕ → Type 0

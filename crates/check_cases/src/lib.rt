@@ -1,4 +1,6 @@
 // Texts and what checking them answers.
+#![tactic(auto)]
+
 ghost use Rattle.std.specs.Prelude.{◌≡◌};
 ghost use Rattle.check_listing.specs.Answers.{answer_to};
 ghost use Rattle.check_cases.specs.Answers.{with_room, answers};

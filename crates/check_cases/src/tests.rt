@@ -2,8 +2,8 @@
 ghost use Rattle.std.specs.Prelude.{◌<◌};
 
 use super::*;
-use check::check;
 use check_listing::answers::answer_for;
+use checker::check;
 use script::{Number, Place, Token, read};
 use std::process::Abort;
 

@@ -3,11 +3,11 @@ use Rattle.std.proofs.Common.{◌≡◌, ℕ, List, length, take, Ok, Option, Re
 use Rattle.script.specs.declared.reading.Entry.{Entry}
 use Rattle.number.specs.declared.Pair.{Pair}
 use Rattle.number.specs.Frac.{Frac}
-use Rattle.check.specs.declared.refusals.Refusal.{Refusal}
-use Rattle.check.specs.declared.lines.Past.{Past}
+use Rattle.checker.specs.declared.refusals.Refusal.{Refusal}
+use Rattle.checker.specs.declared.lines.Past.{Past}
 use Rattle.entries.specs.Fields.{lines}
-use Rattle.check.specs.Conditions.{lines_check, at_first}
-use Rattle.check.specs.Checking.{check_of}
+use Rattle.checker.specs.Conditions.{lines_check, at_first}
+use Rattle.checker.specs.Checking.{check_of}
 use Rattle.check_listing.specs.declared.answers.Answer.TheVariants.{Accepted}
 use Rattle.check_listing.specs.Answers.{variables, checked, answer_for}
 

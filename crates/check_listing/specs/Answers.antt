@@ -6,12 +6,12 @@ use Rattle.script.specs.Refusals as reader
 use Rattle.script.specs.Reading.{read_of, filled}
 use Rattle.number.specs.declared.Pair.{Pair}
 use Rattle.number.specs.Frac.{Frac}
-use Rattle.check.specs.declared.refusals.Refusal.{Refusal}
-use Rattle.check.specs.declared.lines.Past.{Past}
-use Rattle.check.specs.Refusals.{number_of}
+use Rattle.checker.specs.declared.refusals.Refusal.{Refusal}
+use Rattle.checker.specs.declared.lines.Past.{Past}
+use Rattle.checker.specs.Refusals.{number_of}
 use Rattle.entries.specs.Fields.{lines}
-use Rattle.check.specs.Conditions.{lines_check, at_first}
-use Rattle.check.specs.Checking.{check_of}
+use Rattle.checker.specs.Conditions.{lines_check, at_first}
+use Rattle.checker.specs.Checking.{check_of}
 use Rattle.check_listing.specs.declared.answers.Answer.{Answer}
 use Rattle.check_listing.specs.declared.answers.Answer.TheVariants.{Accepted, Refused, Unread}
 

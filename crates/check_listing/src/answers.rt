@@ -2,7 +2,7 @@
 ghost use Rattle.std.specs.Prelude.{◌≡◌};
 ghost use Rattle.check_listing.specs.Answers.{answer_for, answer_to, table_to};
 
-use check::check;
+use checker::check;
 use number::Kind;
 use script::{Draft, Entry, read};
 

@@ -1,4 +1,6 @@
 // The lines that the program `checked` prints.
+#![tactic(auto)]
+
 ghost use Rattle.std.specs.Prelude.{◌≡◌, List, ◌++◌, IfOk, string_bytes};
 ghost use Rattle.check_listing.specs.Answers.{answer_to};
 ghost use Rattle.check_listing.specs.Printed.{ok_line, refused_line, unread_line, answer_line, kind_line, kind_lines, printed};

@@ -1,4 +1,6 @@
 // Reads a motion script from standard input, checks it for each kind of number, and prints the answers.
+#![tactic(auto)]
+
 ghost use Rattle.std.specs.Prelude.{◌≤◌, length, IfOk};
 
 use check_listing::report;

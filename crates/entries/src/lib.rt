@@ -1,4 +1,6 @@
 // What the entries of a script are: the lines that they stand for, the rules of items, and whether a table is that of a text.
+#![tactic(auto)]
+
 ghost use Rattle.entries.specs.Running.{ItemsSorted};
 
 mod fields;

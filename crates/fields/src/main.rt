@@ -1,4 +1,6 @@
 // Reads a motion script from standard input and prints its fields, or why it is refused.
+#![tactic(auto)]
+
 ghost use Rattle.std.specs.Prelude.{◌≤◌, length, IfOk};
 
 use listing::report;

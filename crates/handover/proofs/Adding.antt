@@ -3,7 +3,7 @@ use Rattle.std.proofs.Common.{◌≡◌, ℕ, ◌+◌, ◌/◌, ◌%◌, ◌^◌
 use Rattle.std.proofs.lemmas.Int.{ints}
 use Rattle.std.specs.Fmt.{signed_decimal}
 use Rattle.std.proofs.lemmas.Fmt.{decimal_digit, decimal_step, length-decimal-le}
-use Rattle.std.proofs.lemmas.Bool.{ne_eqb, le-leb, cond_true, cond-false, cond_both}
+use Rattle.std.proofs.lemmas.Bool.{ne_eqb, le-leb, cond-true, cond-false, cond_both}
 use Rattle.std.proofs.lemmas.List.{take_more_set, append_assoc, length-append, append-nil}
 use Rattle.handover.specs.declared.text.Text.{Text}
 use Rattle.handover.specs.Texts.{bytes_of, Added, Spelled, is_one, terms_text}
@@ -62,7 +62,7 @@ spelled_then t u xs ys s a = record {
 
 -- a text that fits into a buffer
 pub copied_whole : (line old : List ℕ) (n : ℕ) → length line ≡ n → n ≤ length old → copied line old ≡ line ++ drop n old
-copied_whole line old n e h = cond_true (leb (length line) (length old)) _ _ (le-leb (length line) (length old) (omega arith)) ∙ ap (λ k. line ++ drop k old) e
+copied_whole line old n e h = cond-true (leb (length line) (length old)) _ _ (le-leb (length line) (length old) (omega arith)) ∙ ap (λ k. line ++ drop k old) e
 
 pub copied_size_whole : (line old : List ℕ) (n : ℕ) → length line ≡ n → n ≤ length old → copied_size line old ≡ Some n
-copied_size_whole line old n e h = cond_true (leb (length line) (length old)) _ _ (le-leb (length line) (length old) (omega arith)) ∙ ap Some e
+copied_size_whole line old n e h = cond-true (leb (length line) (length old)) _ _ (le-leb (length line) (length old) (omega arith)) ∙ ap Some e

@@ -5,7 +5,7 @@ use Rattle.std.specs.List.{AllByRecursion as All}
 use Rattle.std.proofs.lemmas.Fmt.{digits_decimal, digits_value-decimal}
 use Rattle.std.proofs.lemmas.List.{append_assoc, length_push}
 use Rattle.std.proofs.lemmas.Str.Parse.{IsNumeralModel, numerals_by_fold}
-use Rattle.std.proofs.lemmas.Bool.{cond_true, le-leb, lt-ltb, eqb-true}
+use Rattle.std.proofs.lemmas.Bool.{cond-true, le-leb, lt-ltb, eqb-true}
 use Rattle.number.specs.declared.Pair.{Pair}
 use Rattle.number.specs.Frac.{Frac}
 use Rattle.kinds.specs.Fractions.{pair_from}
@@ -38,8 +38,8 @@ run mk grows fs v [] rest h s = refl
 run mk grows fs v (b ∷ bs) rest h s =
     let d : ℕ = b - 48 in
     let small : v ≤ 214748364 = omega (arith, at_least (v * 10 + d) bs) in
-    let more : with_digit (mk v) d ≡ mk (v * 10 + d) = grows v d ∙ ap mk (cond_true (leb v 214748364) (v * 10 + d) v (le-leb v 214748364 small)) in
-    cond_true (digit b) _ _ h.0 ∙ ap (λ x. scanned fs x (bs ++ rest)) more ∙ run mk grows fs (v * 10 + d) bs rest h.1 s
+    let more : with_digit (mk v) d ≡ mk (v * 10 + d) = grows v d ∙ ap mk (cond-true (leb v 214748364) (v * 10 + d) v (le-leb v 214748364 small)) in
+    cond-true (digit b) _ _ h.0 ∙ ap (λ x. scanned fs x (bs ++ rest)) more ∙ run mk grows fs (v * 10 + d) bs rest h.1 s
 
 decimal_run : (mk : ℕ → Number) → ((v d : ℕ) → with_digit (mk v) d ≡ mk (grown v d)) → (fs : List Pair) (n : ℕ) (rest : List ℕ) → n ≤ 2147483647 → scanned fs (mk 0) (decimal n ++ rest) ≡ scanned fs (mk n) rest
 decimal_run mk grows fs n rest h =
@@ -86,7 +86,7 @@ abbrev pub terms_pair : Frac → Pair
 terms_pair q = pair_from q.num q.den
 
 closed_one : (fs : List Pair) (p : Pair) → length fs < 21 → closed fs p ≡ fs ++ p ∷ []
-closed_one fs p h = cond_true (ltb (length fs) 21) _ _ (lt-ltb (length fs) 21 h)
+closed_one fs p h = cond-true (ltb (length fs) 21) _ _ (lt-ltb (length fs) 21 h)
 
 fields_run : (fs : List Pair) (x : Number) (qs : List Frac) → All Small qs → length fs + length qs < 21 → scanned fs x (fields_by fraction_text qs ++ 10 ∷ []) ≡ fs ++ pair_of_number x ∷ map terms_pair qs
 fields_run fs x [] s h = closed_one fs (pair_of_number x) (omega arith)

@@ -4,7 +4,7 @@ use Rattle.std.specs.List.{AllByRecursion as All}
 use Rattle.std.specs.Str.{bytes_eq}
 use Rattle.std.proofs.lemmas.Slice.Eq.{bytes_eq-Decides}
 use Rattle.std.proofs.lemmas.List.{length-map, length-drop, length_push}
-use Rattle.std.proofs.lemmas.Bool.{and_from, and_parts, cond_true, cond-false, le-leb, le-ltb, ltb-true, cond_both}
+use Rattle.std.proofs.lemmas.Bool.{and_from, and_parts, cond-true, cond-false, le-leb, le-ltb, ltb-true, cond_both}
 use Rattle.number.specs.declared.Pair.{Pair}
 use Rattle.number.specs.Frac.{Frac}
 use Rattle.number.proofs.Tests.{none_some, is_true, join_t, two_t, leb_yes, chosen}
@@ -26,7 +26,7 @@ pairs_bench w = record { line = w.line; left = w.left; total = w.total; over = w
 
 -- ---- a written line is read
 count_back : (least most n : ℕ) → least ≤ n → n ≤ most → count_of least most (count_pair n) ≡ Some n
-count_back least most n h k = cond_true (leb least n && leb n most) (Some n) None (and_from (leb least n) (leb n most) (le-leb least n h) (le-leb n most k))
+count_back least most n h k = cond-true (leb least n && leb n most) (Some n) None (and_from (leb least n) (leb n most) (le-leb least n h) (le-leb n most k))
 
 bench_back : (w : M.Bench Frac) (p : Pair) → Within w → bench_from (p ∷ count_pair w.line ∷ count_pair w.left ∷ count_pair w.total ∷ count_pair w.over ∷ map terms_pair w.values) ≡ Some (pairs_bench w)
 bench_back w p i =
@@ -63,7 +63,7 @@ read_back w p =
     let b : M.Bench Pair = pairs_bench w in
     ap (λ fs. then (bench_from fs) (if_same bytes)) (fields_back w p)
     ∙ ap (λ o. then o (if_same bytes)) (bench_back w (pair_of_number blank) p.within)
-    ∙ cond_true (all_meant frac_of b.values && bytes_eq (line_of frac_of b) bytes) (Some b) None (and_from _ _ (all_are_meant frac_of b.values (all_back w.values p.small)) ((bytes_eq-Decides (line_of frac_of b) bytes).1 (line_same w p.small)))
+    ∙ cond-true (all_meant frac_of b.values && bytes_eq (line_of frac_of b) bytes) (Some b) None (and_from _ _ (all_are_meant frac_of b.values (all_back w.values p.small)) ((bytes_eq-Decides (line_of frac_of b) bytes).1 (line_same w p.small)))
 
 -- ---- what is read is a written line
 -- there are never more than 21 fields

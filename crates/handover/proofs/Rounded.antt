@@ -2,7 +2,7 @@
 use Rattle.std.proofs.Common.{◌≡◌, ℕ, suc, ◌+◌, ◌⊎◌, List, [], ◌∷◌, ◌++◌, map, length, pos, Some, None, Ok, Err, Option, Result, sym, refl, ap, ◌∙◌, subst, ap₂, inl, inr, arith}
 use lib.Signed.{le_z}
 use Rattle.std.specs.List.{AllByRecursion as All}
-use Rattle.std.proofs.lemmas.Bool.{cond_true, le-leb}
+use Rattle.std.proofs.lemmas.Bool.{cond-true, le-leb}
 use Rattle.number.specs.declared.Pair.{Pair}
 use Rattle.number.specs.Frac.{Frac}
 use Rattle.number.specs.Kind.{Holds, held, taken}
@@ -65,7 +65,7 @@ module _ (means : Pair → Option Frac) (code : Frac → Option Pair) (laws : Ho
       by (Some p) e (inr u) = inr (suc u.0, later e u.1)
 
   taken_own : (q : Frac) → taken means code q.num (pos q.den) ≡ held (code q)
-  taken_own q = cond_true (le_z (pos 1) (pos q.den)) _ _ (le-leb 1 q.den (den_pos q)) ∙ ap (λ x. held (code x)) (equality.own_terms q)
+  taken_own q = cond-true (le_z (pos 1) (pos q.den)) _ _ (le-leb 1 q.den (den_pos q)) ∙ ap (λ x. held (code x)) (equality.own_terms q)
 
   coded_is : {qs : List Frac} {ps : List Pair} (k : ℕ) → Coded qs ps → held_from means code k (map terms_pair qs) ≡ Ok ps
   coded_is k none = refl

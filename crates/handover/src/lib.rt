@@ -1,4 +1,6 @@
 // A bench written as one line of text, and taken up from it.
+#![tactic(auto)]
+
 ghost use Rattle.handover.specs.Examples.{Examples};
 
 mod reading;

@@ -1,4 +1,6 @@
 // The lines that the program `fields` prints.
+#![tactic(auto)]
+
 ghost use Rattle.std.specs.Prelude.{◌≡◌, ◌++◌, length, IfOk, string_bytes};
 ghost use Rattle.listing.specs.Rows.{kind_of, entry_line, entry_lines, total_line, refused_line, refusal_line, printed, RoomEnough};
 

@@ -15,7 +15,7 @@ use Rattle.motion.specs.Machine.{Answer, refused, new, advance}
 use Rattle.motion.specs.Fitting.{fits, advance_call}
 use Rattle.motion.specs.Marked.{A, B, C, D, w, thousands}
 use Rattle.motion.proofs.Marked.{marked}
-use Rattle.check.specs.Checking.{check_of}
+use Rattle.checker.specs.Checking.{check_of}
 use Rattle.marked.specs.Texts.{text_a, text_b, text_c, text_d}
 use Rattle.marked.specs.Runs.{Says, Passes, MarkedFromText, lines_in, answer_from}
 

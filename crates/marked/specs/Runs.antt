@@ -13,7 +13,7 @@ use Rattle.motion.specs.Fitting.{advance_call}
 use Rattle.motion.specs.Marked.{A, B, C, D, w, thousands, bench}
 use Rattle.entries.specs.Fields.{lines}
 use Rattle.entries.specs.Decoding.{script_of}
-use Rattle.check.specs.Checking.{check_of}
+use Rattle.checker.specs.Checking.{check_of}
 use Rattle.handover.specs.Lines.{line_of}
 use Rattle.marked.specs.Texts.{text_a, text_b, text_c, text_d}
 

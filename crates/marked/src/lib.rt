@@ -1,4 +1,6 @@
 // The eight marked runs: four scripts, and what is answered to advances of new benches of them.
+#![tactic(auto)]
+
 ghost use Rattle.std.specs.Prelude.{◌≡◌};
 ghost use Rattle.marked.specs.Texts.{text_a, text_b, text_c, text_d};
 ghost use Rattle.marked.specs.Runs.{MarkedFromText};

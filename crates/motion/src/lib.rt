@@ -1,5 +1,7 @@
 // Motion scripts: what a script means, and the theorems about it.
 // Each function below carries one theorem about the definitions in specs/ and has no work of its own.
+#![tactic(auto)]
+
 ghost use Rattle.motion.specs.Determinism.{Deterministic, OneRest, OneStanding, OneCurve};
 ghost use Rattle.motion.specs.FlowLaw.{FlowLaw};
 ghost use Rattle.motion.specs.Solution.{StretchSolved, StretchSolvedExactly, StretchSolvedOnce, StretchFlows, SolutionFlows, StretchRuns};

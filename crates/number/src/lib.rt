@@ -1,4 +1,6 @@
 // Exact fractions, and kinds of number: each holds some fractions exactly, and says so where it does not.
+#![tactic(auto)]
+
 ghost use Rattle.std.specs.Prelude.{◌≡◌, ◌≤◌, ◌*ℤ◌, Some, None, Ok, Err, Option, unsigned_abs};
 ghost use Rattle.number.specs.declared.Pair.{Pair};
 ghost use Rattle.number.specs.Frac.{Frac, add as plus, sub as minus, mul as times, less, at_most};

@@ -1,4 +1,6 @@
 // A table of operations at the edges of what each kind holds, worked out by another program.
+#![tactic(auto)]
+
 use number::Fault;
 
 pub mod fractions_table;

@@ -1,4 +1,6 @@
 // Answers each line of standard input, a question to a kind of number.
+#![tactic(auto)]
+
 use calculator::answer;
 use std::io;
 use std::io::{BufRead, BufReader};

@@ -1,4 +1,6 @@
 // Works out the items of a line in a kind's numbers, from left to right over what waits.
+#![tactic(auto)]
+
 mod stack;
 #[cfg(test)]
 mod tests;

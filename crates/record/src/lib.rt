@@ -1,4 +1,6 @@
 // A bench as a plain record, and why a call on it is refused.
+#![tactic(auto)]
+
 ghost use Rattle.std.specs.Prelude.{◌≡◌};
 ghost use Rattle.record.specs.Refusals.{number_of, refused};
 

@@ -1,4 +1,6 @@
 // Runs the lines of a checked script in a kind's numbers, step by step.
+#![tactic(auto)]
+
 mod lines;
 mod run;
 mod steps;

@@ -6,14 +6,14 @@ ghost use Rattle.motion.specs.Pairs.{numbers_of};
 ghost use Rattle.motion.specs.Items.{number_of, truth_of};
 ghost use Rattle.motion.specs.Flow.{flow as flow_meaning};
 ghost use Rattle.entries.specs.Decoding.{part, items_of};
-ghost use Rattle.check.specs.Scripts.{table_in, places_in, rows_in, lines_in, Laid};
+ghost use Rattle.checker.specs.Scripts.{table_in, places_in, rows_in, lines_in, Laid};
 ghost use Rattle.record.specs.Benches.{pairs_of};
 ghost use Rattle.postfix.specs.Located.{located};
 ghost use Rattle.std.specs.Option.{option_map};
 ghost use Rattle.stretch.specs.Flows.{Counted};
 ghost use Rattle.running.specs.Steps.{seen_place};
 
-use check::Checked;
+use checker::Checked;
 use entries::{Row, between};
 use number::{Kind, Pair};
 use postfix::{number_of, truth_of};

@@ -2,13 +2,13 @@
 ghost use Rattle.std.specs.Prelude.{◌≡◌, ℕ, suc, ◌≤◌, Bool, length, IfOk};
 ghost use Rattle.motion.specs.Pairs.{numbers_of};
 ghost use Rattle.motion.specs.Machine.{loop as loop_meaning, place_of, advance};
-ghost use Rattle.check.specs.Scripts.{lines_in, Laid};
+ghost use Rattle.checker.specs.Scripts.{lines_in, Laid};
 ghost use Rattle.record.specs.Benches.{pairs_of, bench_of};
 ghost use Rattle.running.specs.Steps.{seen_place, is_ended, seen_answer};
 
 use crate::lines::{Standing, next_line, standing_at};
 use crate::steps::{Outcome, step};
-use check::Checked;
+use checker::Checked;
 use number::Kind;
 use record::{Bench, Reason, Refusal, Values, refuse};
 

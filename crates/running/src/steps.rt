@@ -6,14 +6,14 @@ ghost use Rattle.motion.specs.Items.{number_of, truth_of};
 ghost use Rattle.motion.specs.Flow.{flow};
 ghost use Rattle.motion.specs.Machine.{at, cut, whole_run, stretch, assigned, started, chosen};
 ghost use Rattle.entries.specs.Decoding.{part, items_of, row_line};
-ghost use Rattle.check.specs.Scripts.{table_in, places_in, lines_in, Laid};
+ghost use Rattle.checker.specs.Scripts.{table_in, places_in, lines_in, Laid};
 ghost use Rattle.record.specs.declared.Reason.TheVariants.{NoStatement};
 ghost use Rattle.record.specs.Refusals.{refused};
 ghost use Rattle.record.specs.Benches.{pairs_of};
 ghost use Rattle.running.specs.Steps.{seen_place, seen_step, Keeps, turn_of};
 
 use crate::lines::{Standing, flow_in, next_line, number_in, past_line, ticks_of, truth_in};
-use check::Checked;
+use checker::Checked;
 use entries::Row;
 use number::{Kind, Pair};
 use record::{Reason, Refusal, Values, refuse};

@@ -1,4 +1,6 @@
 // Reads the text of a motion script: bytes to fields to entries.
+#![tactic(auto)]
+
 mod checks;
 mod numbers;
 mod places;

@@ -1,4 +1,6 @@
 // Texts and what reading them answers.
+#![tactic(auto)]
+
 ghost use Rattle.std.specs.Prelude.{◌≡◌, length};
 ghost use Rattle.script.specs.Reading.{read_of};
 ghost use Rattle.script_cases.specs.Examples.{answer_of, Examples};

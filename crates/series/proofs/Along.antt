@@ -17,8 +17,8 @@ use Rattle.motion.specs.Machine as M
 use Rattle.motion.specs.Pairs.{Meant}
 use Rattle.entries.specs.Fields.{lines, find}
 use Rattle.entries.specs.Decoding.{names_of, script_of}
-use Rattle.check.specs.declared.checking.Checked.{Checked}
-use Rattle.check.specs.Scripts.{text_in, table_in, names_in, lines_in, variable_in, Sound}
+use Rattle.checker.specs.declared.checking.Checked.{Checked}
+use Rattle.checker.specs.Scripts.{text_in, table_in, names_in, lines_in, variable_in, Sound}
 use Rattle.bench.specs.Built.{first_values}
 use Rattle.bench.proofs.First.{values_held}
 use Rattle.bench.proofs.Promised.{spelled}

@@ -10,8 +10,8 @@ use Rattle.motion.specs.Machine as M
 use Rattle.motion.specs.Promise.{Alike}
 use Rattle.entries.specs.Fields.{lines, find}
 use Rattle.entries.specs.Decoding.{names_of, script_of}
-use Rattle.check.specs.declared.refusals.Refusal.{Refusal}
-use Rattle.check.specs.Checking.{check_of}
+use Rattle.checker.specs.declared.refusals.Refusal.{Refusal}
+use Rattle.checker.specs.Checking.{check_of}
 use Rattle.series.specs.declared.calls.Step.{Step}
 use Rattle.series.specs.declared.performing.Refused.{Refused}
 use Rattle.series.specs.declared.performing.Refused.TheVariants.{Unread, Unchecked}

@@ -1,11 +1,11 @@
 // Calls as data, and one call performed.
 ghost use Rattle.std.specs.Prelude.{◌≡◌, ℕ, ◌≤◌, length};
-ghost use Rattle.check.specs.Scripts.{lines_in, variable_in, Sound};
+ghost use Rattle.checker.specs.Scripts.{lines_in, variable_in, Sound};
 ghost use Rattle.record.specs.Benches.{bench_of};
 ghost use Rattle.series.specs.Series.{advance_reply, value_reply, size_reply, hand_reply, write_call, handed, Replies};
 
 use bench::{Bench, Refusal, advance, next_joint, reading, take_up, write};
-use check::Checked;
+use checker::Checked;
 use entries::between;
 use number::Kind;
 

@@ -1,4 +1,6 @@
 // A list of calls on one bench, as data, and its performance.
+#![tactic(auto)]
+
 mod calls;
 mod performing;
 

@@ -1,15 +1,15 @@
 // Any list of calls on a bench that is built on a text.
 ghost use Rattle.std.specs.Prelude.{◌≡◌, ℕ, ◌≤◌, List, map, length, IfOk, MatchResult};
-ghost use Rattle.check.specs.Scripts.{lines_in, variable_in, Sound};
+ghost use Rattle.checker.specs.Scripts.{lines_in, variable_in, Sound};
 ghost use Rattle.record.specs.Benches.{bench_of};
 ghost use Rattle.series.specs.declared.calls.Step.{Step};
-ghost use Rattle.check.specs.Checking.{check_of};
+ghost use Rattle.checker.specs.Checking.{check_of};
 ghost use Rattle.series.specs.Series.{Performed, call_in};
 ghost use Rattle.series.specs.Promise.{Promise, TwoPromise, check_reply, admitted, outcome};
 
 use crate::calls::{Step, perform_call};
 use bench::{Bench, build};
-use check::{Checked, check};
+use checker::{Checked, check};
 use number::Kind;
 use script::{Draft, Entry, read};
 
@@ -17,7 +17,7 @@ use script::{Draft, Entry, read};
 #[derive(Clone, Copy)]
 pub enum Refused {
     Unread(script::Refusal),
-    Unchecked(check::Refusal),
+    Unchecked(checker::Refusal),
 }
 
 // The calls of the list on a new bench, one after the other; each reply is put beside its call.

@@ -1,4 +1,6 @@
 // The values after some ticks of a stretch, in a kind's numbers.
+#![tactic(auto)]
+
 ghost use Rattle.std.specs.Prelude.{◌≡◌, ◌≤◌, length, take};
 ghost use Rattle.std.specs.Option.{option_map};
 ghost use Rattle.motion.specs.Pairs.{numbers_of};

@@ -7,7 +7,7 @@ use Rattle.listing.proofs.rows.Goals as goal
 pub loop-entry-preserved : goal.loop-entry-preserved
 loop-entry-preserved c =
     c.loop-entry.invariant
-    ∙ row_more _ _ _ _ _ _ _ c.loop-entry-test.true (c.as-slice.ensures.value ∙ c.in-ok-row.ensures) c.in-ok-extend-from-slice.ensures.items
+    ∙ row_more _ _ _ _ _ _ _ c.loop-entry-test.true (c.as_slice.ensures.value ∙ c.in_ok-row.ensures) c.in_ok-extend_from_slice.ensures.items
 
 pub returns : goal.returns
 returns c =

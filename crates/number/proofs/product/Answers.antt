@@ -4,8 +4,8 @@ use Rattle.std.proofs.lemmas.Int.{to_z-of_z}
 use Rattle.number.proofs.Products.{product_fits, product_back, product_small}
 use Rattle.number.proofs.product.Goals as goal
 
-pub overflow-mul-result : goal.overflow-mul-result
-overflow-mul-result c =
+pub overflow_mul-result : goal.overflow_mul-result
+overflow_mul-result c =
     let a = c.args.a in
     let b = c.args.b in
     subst (SFits w64) (sym (ap₂ ◌*ℤ◌ (to_z-of_z w64 a c.ranges.a) (to_z-of_z w64 b c.ranges.b))) (product_fits a b c.requires.0 c.requires.1)

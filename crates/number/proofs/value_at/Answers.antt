@@ -7,10 +7,10 @@ pub returns : goal.returns
 returns g c =
     let k = g.K.Kind in
     let a = c.args in
-    let s3 = c.in-ok-r3.ensures in
-    let s2 = c.in-ok-r2.ensures in
-    let s1 = c.in-ok-r1.ensures in
+    let s3 = c.in_ok-r3.ensures in
+    let s2 = c.in_ok-r2.ensures in
+    let s1 = c.in_ok-r1.ensures in
     record {
-      value = c.step-4.ensures ∙ worked_is k.means k.code a.d0 a.d1 a.d2 a.d3 a.d4 c.in-ok-r3.r3 c.in-ok-r2.r2 c.in-ok-r1.r1 a.n s3 s2 s1;
+      value = c.step-4.ensures ∙ worked_is k.means k.code a.d0 a.d1 a.d2 a.d3 a.d4 c.in_ok-r3.r3 c.in_ok-r2.r2 c.in_ok-r1.r1 a.n s3 s2 s1;
       exact = λ x0 x1 x2 x3 x4 p e0 e1 e2 e3 e4 z. horner_means k.means k.code g.met.K.Kind.sound a.d0 a.d1 a.d2 a.d3 a.d4 _ _ _ p x0 x1 x2 x3 x4 a.n e0 e1 e2 e3 e4 (sym s3) (sym s2) (sym s1) (sym c.step-4.ensures ∙ z);
     }

@@ -1,5 +1,5 @@
 use Rattle.std.proofs.Common.{sym, subst}
-use Rattle.check.specs.Scripts.{lines_in}
+use Rattle.checker.specs.Scripts.{lines_in}
 use Rattle.bench.specs.Laws.{AdvancesOnCurve, AdvanceTold, Lasts}
 use Rattle.bench.proofs.Promised.{sound_curve, advance_told, lasts}
 use Rattle.bench.proofs.calls.advance.Goals as goal

@@ -3,17 +3,17 @@ use Rattle.std.proofs.lemmas.Result.{err_from_is_err_and}
 use Rattle.number.specs.declared.Pair.{Pair}
 use Rattle.motion.specs.Pairs.{numbers_of}
 use Rattle.motion.specs.Machine as M
-use Rattle.check.specs.Scripts.{lines_in}
-use Rattle.check.proofs.LaidOver.{laid}
+use Rattle.checker.specs.Scripts.{lines_in}
+use Rattle.checker.proofs.LaidOver.{laid}
 use Rattle.bench.proofs.Numbered.{advance_fits}
 use Rattle.bench.proofs.calls.advance_by.Goals as goal
 
-pub returns-in-err-steps : goal.returns-in-err-steps
-returns-in-err-steps g c =
-    let p = err_from_is_err_and c.from-residual.result c.from-residual.ensures.1 in
+pub returns-in_err-steps : goal.returns-in_err-steps
+returns-in_err-steps g c =
+    let p = err_from_is_err_and c.from_residual.result c.from_residual.ensures.1 in
     let few = c.fits.ensures.few c.if-not-fits.false in
     rw (p.1, p.2) (record {
-      answer = λ h. c.in-err-steps.ensures.answer (laid c.args.script.now g.K.Kind.means g.K.Kind.code h) few.0 few.1
+      answer = λ h. c.in_err-steps.ensures.answer (laid c.args.script.now g.K.Kind.means g.K.Kind.code h) few.0 few.1
           ∙ advance_fits (numbers_of g.K.Kind.means g.K.Kind.code) (lines_in c.args.script.now) c.args.bench.now c.args.ticks c.args.allowance c.fits.result (c.fits.ensures.answer h) c.if-not-fits.false;
       kept = refl;
       count = refl;
@@ -23,8 +23,8 @@ pub returns : goal.returns
 returns g c =
     let few = c.fits.ensures.few c.if-not-fits.false in
     record {
-      answer = λ h. c.in-ok-steps.ensures.answer (laid c.args.script.now g.K.Kind.means g.K.Kind.code h) few.0 few.1
+      answer = λ h. c.in_ok-steps.ensures.answer (laid c.args.script.now g.K.Kind.means g.K.Kind.code h) few.0 few.1
           ∙ advance_fits (numbers_of g.K.Kind.means g.K.Kind.code) (lines_in c.args.script.now) c.args.bench.now c.args.ticks c.args.allowance c.fits.result (c.fits.ensures.answer h) c.if-not-fits.false;
       kept = tt;
-      count = c.in-ok-steps.ensures.count;
+      count = c.in_ok-steps.ensures.count;
     }

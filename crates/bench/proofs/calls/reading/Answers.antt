@@ -1,4 +1,4 @@
-use Rattle.check.specs.Scripts.{lines_in, variable_in}
+use Rattle.checker.specs.Scripts.{lines_in, variable_in}
 use Rattle.record.specs.Benches.{bench_of}
 use Rattle.motion.specs.Pairs.{numbers_of}
 use Rattle.bench.specs.Calls.{fitting}
@@ -9,6 +9,6 @@ pub returns : goal.returns
 returns g c =
     let s = c.args.script.now in
     record {
-      answer = c.read-bench.ensures;
-      curve = λ T h on. reads g.K.Kind.means g.K.Kind.code (lines_in s) T (bench_of c.args.bench.now) on (variable_in s c.args.name.now) (fitting (numbers_of g.K.Kind.means g.K.Kind.code) (lines_in s) c.args.bench.now) c.read-bench.result (c.read-bench.ensures h);
+      answer = c.read_bench.ensures;
+      curve = λ T h on. reads g.K.Kind.means g.K.Kind.code (lines_in s) T (bench_of c.args.bench.now) on (variable_in s c.args.name.now) (fitting (numbers_of g.K.Kind.means g.K.Kind.code) (lines_in s) c.args.bench.now) c.read_bench.result (c.read_bench.ensures h);
     }

@@ -1,4 +1,4 @@
-use Rattle.check.specs.Scripts.{lines_in}
+use Rattle.checker.specs.Scripts.{lines_in}
 use Rattle.handover.proofs.Rounded.{takes}
 use Rattle.handover.specs.Takes.{plainly}
 use Rattle.bench.proofs.First.{lines_few, values_few}
@@ -9,8 +9,8 @@ pub returns : goal.returns
 returns g c =
     let s = c.args.script.now in
     record {
-      answer = c.take-bench.ensures.answer;
-      few = c.take-bench.ensures.few;
-      exactly = λ h. taken_exactly g.K.Kind.means g.K.Kind.code g.met.K.Kind.sound (lines_in s) (lines_few s g.K.Kind.means g.K.Kind.code h) (values_few s g.K.Kind.means g.K.Kind.code h) c.args.line.now (plainly c.take-bench.result) (c.take-bench.ensures.answer h);
+      answer = c.take_bench.ensures.answer;
+      few = c.take_bench.ensures.few;
+      exactly = λ h. taken_exactly g.K.Kind.means g.K.Kind.code g.met.K.Kind.sound (lines_in s) (lines_few s g.K.Kind.means g.K.Kind.code h) (values_few s g.K.Kind.means g.K.Kind.code h) c.args.line.now (plainly c.take_bench.result) (c.take_bench.ensures.answer h);
       takes = takes g.K.Kind.means g.K.Kind.code g.met.K.Kind.sound c.args.line.now;
     }

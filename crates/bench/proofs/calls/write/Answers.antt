@@ -1,4 +1,4 @@
-use Rattle.check.specs.Scripts.{lines_in}
+use Rattle.checker.specs.Scripts.{lines_in}
 use Rattle.bench.proofs.First.{lines_few, values_few}
 use Rattle.bench.proofs.Called.{writes_back}
 use Rattle.bench.proofs.calls.write.Goals as goal
@@ -7,7 +7,7 @@ pub returns : goal.returns
 returns g c =
     let s = c.args.script.now in
     record {
-      answer = c.write-bench.ensures.answer;
-      bytes = c.write-bench.ensures.bytes;
-      back = λ h. writes_back g.K.Kind.means g.K.Kind.code g.met.K.Kind.sound (lines_in s) (lines_few s g.K.Kind.means g.K.Kind.code h) (values_few s g.K.Kind.means g.K.Kind.code h) c.args.bench.now c.args.buffer.now c.write-bench.result c.write-bench.new.buffer (c.write-bench.ensures.answer h) (c.write-bench.ensures.bytes h);
+      answer = c.write_bench.ensures.answer;
+      bytes = c.write_bench.ensures.bytes;
+      back = λ h. writes_back g.K.Kind.means g.K.Kind.code g.met.K.Kind.sound (lines_in s) (lines_few s g.K.Kind.means g.K.Kind.code h) (values_few s g.K.Kind.means g.K.Kind.code h) c.args.bench.now c.args.buffer.now c.write_bench.result c.write_bench.new.buffer (c.write_bench.ensures.answer h) (c.write_bench.ensures.bytes h);
     }

@@ -1,6 +1,6 @@
 use Rattle.std.proofs.Common.{◌≡◌, Err, sym, ap, ◌∙◌}
 use Rattle.motion.specs.Pairs.{numbers_of}
-use Rattle.check.specs.Scripts.{lines_in}
+use Rattle.checker.specs.Scripts.{lines_in}
 use Rattle.record.specs.Benches.{bench_of}
 use Rattle.handover.specs.Lines.{line_of, copied}
 use Rattle.bench.specs.Calls.{fitting, written, unfit}

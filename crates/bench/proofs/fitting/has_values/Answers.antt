@@ -1,6 +1,6 @@
 use Rattle.std.proofs.Common.{◌≡◌, ℕ, ◌≤◌, ◌∙◌, arith}
 use Rattle.motion.specs.Pairs.{numbers_of}
-use Rattle.check.specs.Scripts.{lines_in}
+use Rattle.checker.specs.Scripts.{lines_in}
 use Rattle.running.proofs.Lookups.{from_first}
 use Rattle.bench.proofs.First.{variables_declared}
 use Rattle.bench.proofs.Numbered.{too_many, other_count, values_told}
@@ -21,7 +21,7 @@ returns-then-values-variables g c = record {
 
 pub returns : goal.returns
 returns g c = record {
-  answer = λ h. values_told (numbers_of g.K.Kind.means g.K.Kind.code) (lines_in c.args.script.now) c.args.bench.now c.between-values.result.now c.variables.result c.are-numbers.result c.if-bench-gt16.false
-      (c.between-values.ensures ∙ from_first c.args.bench.now.values.count c.args.bench.now.values.pairs) c.if-values-variables.false (c.variables.ensures ∙ variables_declared c.args.script.now g.K.Kind.means g.K.Kind.code h) c.are-numbers.ensures;
+  answer = λ h. values_told (numbers_of g.K.Kind.means g.K.Kind.code) (lines_in c.args.script.now) c.args.bench.now c.between-values.result.now c.variables.result c.are_numbers.result c.if-bench-gt16.false
+      (c.between-values.ensures ∙ from_first c.args.bench.now.values.count c.args.bench.now.values.pairs) c.if-values-variables.false (c.variables.ensures ∙ variables_declared c.args.script.now g.K.Kind.means g.K.Kind.code h) c.are_numbers.ensures;
   few = λ e. c.if-bench-gt16.false;
 }

@@ -6,16 +6,16 @@ use Rattle.entries.proofs.fields.find_name.Goals as goal
 pub loop-i-preserved : goal.loop-i-preserved
 loop-i-preserved c =
     c.loop-i.invariant
-    ∙ find_turn c.args.text.now c.args.names.now c.loop-i.i _ c.args.name.now c.same-bytes.result c.loop-i-test.true (c.same-bytes.ensures ∙ ap (λ v. bytes_eq v c.args.name.now) c.bytes.ensures)
-    ∙ on_false _ _ _ c.if-same-bytes.false
+    ∙ find_turn c.args.text.now c.args.names.now c.loop-i.i _ c.args.name.now c.same_bytes.result c.loop-i-test.true (c.same_bytes.ensures ∙ ap (λ v. bytes_eq v c.args.name.now) c.bytes.ensures)
+    ∙ on_false _ _ _ c.if-same_bytes.false
 
-pub returns-then-same-bytes : goal.returns-then-same-bytes
-returns-then-same-bytes c = record {
+pub returns-then-same_bytes : goal.returns-then-same_bytes
+returns-then-same_bytes c = record {
   within = c.loop-i-test.true;
   found = sym (
       c.loop-i.invariant
-      ∙ find_turn c.args.text.now c.args.names.now c.loop-i.i _ c.args.name.now c.same-bytes.result c.loop-i-test.true (c.same-bytes.ensures ∙ ap (λ v. bytes_eq v c.args.name.now) c.bytes.ensures)
-      ∙ on_true _ _ _ c.if-same-bytes.true
+      ∙ find_turn c.args.text.now c.args.names.now c.loop-i.i _ c.args.name.now c.same_bytes.result c.loop-i-test.true (c.same_bytes.ensures ∙ ap (λ v. bytes_eq v c.args.name.now) c.bytes.ensures)
+      ∙ on_true _ _ _ c.if-same_bytes.true
       );
 }
 

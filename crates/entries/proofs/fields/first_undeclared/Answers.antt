@@ -7,14 +7,14 @@ use Rattle.entries.proofs.fields.first_undeclared.Goals as goal
 pub loop-e-preserved : goal.loop-e-preserved
 loop-e-preserved c =
     c.loop-e.invariant
-    ∙ undeclared_turn c.args.text.now c.args.names.now c.args.line.now c.loop-e.e-index _ _ c.loop-e-test.true c.is-unknown.ensures
-    ∙ on_false _ _ _ c.if-is-unknown.false
+    ∙ undeclared_turn c.args.text.now c.args.names.now c.args.line.now c.loop-e.e-index _ _ c.loop-e-test.true c.is_unknown.ensures
+    ∙ on_false _ _ _ c.if-is_unknown.false
 
-pub returns-then-is-unknown : goal.returns-then-is-unknown
-returns-then-is-unknown c = sym (
+pub returns-then-is_unknown : goal.returns-then-is_unknown
+returns-then-is_unknown c = sym (
     c.loop-e.invariant
-    ∙ undeclared_turn c.args.text.now c.args.names.now c.args.line.now c.loop-e.e-index _ _ c.loop-e-test.true c.is-unknown.ensures
-    ∙ on_true _ _ _ c.if-is-unknown.true
+    ∙ undeclared_turn c.args.text.now c.args.names.now c.args.line.now c.loop-e.e-index _ _ c.loop-e-test.true c.is_unknown.ensures
+    ∙ on_true _ _ _ c.if-is_unknown.true
     )
 
 pub returns : goal.returns

@@ -5,14 +5,14 @@ use Rattle.entries.proofs.sorts.take_items.Goals as goal
 
 pub loop-e-preserved : goal.loop-e-preserved
 loop-e-preserved c = (
-  c.in-ok-pile.ensures.small,
-  c.loop-e.invariant.1 ∙ turn c.args.items.now c.loop-e.e-index _ (waiting c.loop-e.pile) (Some (waiting c.in-ok-pile.pile)) c.loop-e-test.true c.in-ok-pile.ensures.waits,
+  c.in_ok-pile.ensures.small,
+  c.loop-e.invariant.1 ∙ turn c.args.items.now c.loop-e.e-index _ (waiting c.loop-e.pile) (Some (waiting c.in_ok-pile.pile)) c.loop-e-test.true c.in_ok-pile.ensures.waits,
 )
 
-pub returns-in-err-pile : goal.returns-in-err-pile
-returns-in-err-pile c =
-    rw c.from-residual.ensures (record {
-      waits = sym (c.loop-e.invariant.1 ∙ turn c.args.items.now c.loop-e.e-index _ (waiting c.loop-e.pile) None c.loop-e-test.true c.in-err-pile.ensures.waits);
+pub returns-in_err-pile : goal.returns-in_err-pile
+returns-in_err-pile c =
+    rw c.from_residual.ensures (record {
+      waits = sym (c.loop-e.invariant.1 ∙ turn c.args.items.now c.loop-e.e-index _ (waiting c.loop-e.pile) None c.loop-e-test.true c.in_err-pile.ensures.waits);
       small = tt;
     })
 

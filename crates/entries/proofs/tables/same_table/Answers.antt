@@ -15,7 +15,7 @@ loop-field-preserved c =
       omega arith,
       c.loop-field.invariant.2
           ∙ same_turn c.args.text.now (before c.args.text.now) (after c.args.text.now) c.in-Some.place c.args.table.now c.loop-field.i g _ c.same_entry.result c.token.result (omega arith) k c.same_entry.ensures
-          ∙ and_true _ _ c.if-not-same-entry.false,
+          ∙ and_true _ _ c.if-not-same_entry.false,
     )
 
 pub returns-then-i-table : goal.returns-then-i-table
@@ -25,8 +25,8 @@ returns-then-i-table c =
     let g : c.in-Some.place ∷ after c.args.text.now ≡ before c.args.text.now = subst (λ (t : List ℕ). c.in-Some.place ∷ after t ≡ before t) c.loop-field.invariant.0 c.in-Some.ensures.given in
     sym (c.loop-field.invariant.2 ∙ same_short c.args.text.now (before c.args.text.now) (after c.args.text.now) c.in-Some.place c.args.table.now c.loop-field.i g c.if-i-table.true)
 
-pub returns-then-not-same-entry : goal.returns-then-not-same-entry
-returns-then-not-same-entry c =
+pub returns-then-not-same_entry : goal.returns-then-not-same_entry
+returns-then-not-same_entry c =
     let before : List ℕ → List Place = λ (t : List ℕ). left t c.loop-field.cursor.line c.loop-field.cursor.field c.loop-field.cursor.at in
     let after : List ℕ → List Place = λ (t : List ℕ). left t c.next.new.self.line c.next.new.self.field c.next.new.self.at in
     let g : c.in-Some.place ∷ after c.args.text.now ≡ before c.args.text.now = subst (λ (t : List ℕ). c.in-Some.place ∷ after t ≡ before t) c.loop-field.invariant.0 c.in-Some.ensures.given in
@@ -34,12 +34,12 @@ returns-then-not-same-entry c =
     sym (
     c.loop-field.invariant.2
     ∙ same_turn c.args.text.now (before c.args.text.now) (after c.args.text.now) c.in-Some.place c.args.table.now c.loop-field.i g _ c.same_entry.result c.token.result (omega arith) k c.same_entry.ensures
-    ∙ and_false _ _ c.if-not-same-entry.true
+    ∙ and_false _ _ c.if-not-same_entry.true
     )
 
 pub returns : goal.returns
 returns c =
     let before : List ℕ → List Place = λ (t : List ℕ). left t c.loop-field.cursor.line c.loop-field.cursor.field c.loop-field.cursor.at in
     let after : List ℕ → List Place = λ (t : List ℕ). left t c.next.new.self.line c.next.new.self.field c.next.new.self.at in
-    let e : before c.args.text.now ≡ [] = subst (λ (t : List ℕ). before t ≡ []) c.loop-field.invariant.0 (sym c.in-default.ensures.given) in
+    let e : before c.args.text.now ≡ [] = subst (λ (t : List ℕ). before t ≡ []) c.loop-field.invariant.0 (sym c.in_default.ensures.given) in
     same_over c.args.text.now (before c.args.text.now) c.args.table.now c.loop-field.i e c.loop-field.invariant.1 ∙ sym c.loop-field.invariant.2

@@ -9,37 +9,37 @@ use Rattle.handover.proofs.reading.read_line.Goals as goal
 abbrev Few : Option Bench → Type 0
 Few o = IfSome o (λ b. b.values.count ≤ 16)
 
-pub returns-in-err-bench : goal.returns-in-err-bench
-returns-in-err-bench c =
-    let is_none = c.from-residual.ensures in
+pub returns-in_err-bench : goal.returns-in_err-bench
+returns-in_err-bench c =
+    let is_none = c.from_residual.ensures in
     record {
-      bench = ap (option_map bench_of) is_none ∙ read_by c.args.line.now c.scan_fields.result None c.scan_fields.ensures.fields c.in-err-bench.ensures.bench;
+      bench = ap (option_map bench_of) is_none ∙ read_by c.args.line.now c.scan-fields.result None c.scan-fields.ensures.fields c.in_err-bench.ensures.bench;
       few = subst Few (sym is_none) tt;
     }
 
-pub returns-in-err-text : goal.returns-in-err-text
-returns-in-err-text c =
-    let is_none = c.from-residual-in-err-text.ensures in
-    let b = c.in-ok-bench.bench in
+pub returns-in_err-text : goal.returns-in_err-text
+returns-in_err-text c =
+    let is_none = c.from_residual-in_err-text.ensures in
+    let b = c.in_ok-bench.bench in
     record {
-      bench = ap (option_map bench_of) is_none ∙ no_line_read c.args.line.now b c.in-ok-bench.ensures.few c.in-err-text.ensures ∙ read_by c.args.line.now c.scan_fields.result (Some (bench_of b)) c.scan_fields.ensures.fields c.in-ok-bench.ensures.bench;
+      bench = ap (option_map bench_of) is_none ∙ no_line_read c.args.line.now b c.in_ok-bench.ensures.few c.in_err-text.ensures ∙ read_by c.args.line.now c.scan-fields.result (Some (bench_of b)) c.scan-fields.ensures.fields c.in_ok-bench.ensures.bench;
       few = subst Few (sym is_none) tt;
     }
 
 pub returns-then-same : goal.returns-then-same
 returns-then-same c =
-    let b = c.in-ok-bench.bench in
-    let line = c.in-ok-text.ensures in
+    let b = c.in_ok-bench.bench in
+    let line = c.in_ok-text.ensures in
     record {
-      bench = sym (ap (λ s. cond s (Some (bench_of b)) None) c.if_same.true) ∙ line_read c.args.line.now _ b c.same.result c.in-ok-bench.ensures.few line.0 line.1.bytes c.same.ensures ∙ read_by c.args.line.now c.scan_fields.result (Some (bench_of b)) c.scan_fields.ensures.fields c.in-ok-bench.ensures.bench;
-      few = c.in-ok-bench.ensures.few;
+      bench = sym (ap (λ s. cond s (Some (bench_of b)) None) c.if-same.true) ∙ line_read c.args.line.now _ b c.same.result c.in_ok-bench.ensures.few line.0 line.1.bytes c.same.ensures ∙ read_by c.args.line.now c.scan-fields.result (Some (bench_of b)) c.scan-fields.ensures.fields c.in_ok-bench.ensures.bench;
+      few = c.in_ok-bench.ensures.few;
     }
 
 pub returns-else-same : goal.returns-else-same
 returns-else-same c =
-    let b = c.in-ok-bench.bench in
-    let line = c.in-ok-text.ensures in
+    let b = c.in_ok-bench.bench in
+    let line = c.in_ok-text.ensures in
     record {
-      bench = sym (ap (λ s. cond s (Some (bench_of b)) None) c.if_same.false) ∙ line_read c.args.line.now _ b c.same.result c.in-ok-bench.ensures.few line.0 line.1.bytes c.same.ensures ∙ read_by c.args.line.now c.scan_fields.result (Some (bench_of b)) c.scan_fields.ensures.fields c.in-ok-bench.ensures.bench;
+      bench = sym (ap (λ s. cond s (Some (bench_of b)) None) c.if-same.false) ∙ line_read c.args.line.now _ b c.same.result c.in_ok-bench.ensures.few line.0 line.1.bytes c.same.ensures ∙ read_by c.args.line.now c.scan-fields.result (Some (bench_of b)) c.scan-fields.ensures.fields c.in_ok-bench.ensures.bench;
       few = tt;
     }

@@ -14,10 +14,10 @@ loop-i-preserved g c = (
   length-set c.loop-i.pairs c.loop-i.i c.in-Ok.pair ∙ c.loop-i.invariant.1,
 )
 
-pub returns-in-default : goal.returns-in-default
-returns-in-default g c =
+pub returns-in_default : goal.returns-in_default
+returns-in_default g c =
     record {
-      held = ap Err c.refuse.ensures ∙ sym (c.loop-i.invariant.0 ∙ not_held g.K.Kind.means g.K.Kind.code c.args.fractions.now _ c.loop-i.i _ c.in-default.field-0 c.loop-i-test.true c.in-default.ensures);
+      held = ap Err c.refuse.ensures ∙ sym (c.loop-i.invariant.0 ∙ not_held g.K.Kind.means g.K.Kind.code c.args.fractions.now _ c.loop-i.i _ c.in_default.field-0 c.loop-i-test.true c.in_default.ensures);
       few = tt;
     }
 

@@ -13,5 +13,5 @@ returns c =
     let size : length (bytes_of t) ≡ t.size = length-take-le t.size t.bytes (omega arith) in
     record {
       size = sym (copied_size_whole (bytes_of t) b t.size size c.if-size-buffer.false);
-      bytes = ap₂ (λ xs n. xs ++ drop n b) (c.copy-from-slice.ensures.after ∙ ap (λ n. take n t.bytes) whole) whole ∙ sym (copied_whole (bytes_of t) b t.size size c.if-size-buffer.false);
+      bytes = ap₂ (λ xs n. xs ++ drop n b) (c.copy_from_slice.ensures.after ∙ ap (λ n. take n t.bytes) whole) whole ∙ sym (copied_whole (bytes_of t) b t.size size c.if-size-buffer.false);
     }

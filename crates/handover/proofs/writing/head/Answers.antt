@@ -6,6 +6,6 @@ use Rattle.handover.proofs.writing.head.Goals as goal
 pub returns : goal.returns
 returns c =
     record {
-      spelled = spelled_then _ _ _ _ c.new-text.ensures (added_then _ _ _ _ _ c.push-all.ensures (added_then _ _ _ _ _ c.push-count.ensures.added (added_then _ _ _ _ _ c.push-count-2.ensures.added (added_then _ _ _ _ _ c.push-count-3.ensures.added c.push-count-4.ensures.added))));
-      room = omega (arith, c.new-text.ensures.size, c.push-all.ensures.size, c.push-count.ensures.room, c.push-count-2.ensures.room, c.push-count-3.ensures.room, c.push-count-4.ensures.room);
+      spelled = spelled_then _ _ _ _ c.new-text.ensures (added_then _ _ _ _ _ c.push_all.ensures (added_then _ _ _ _ _ c.push_count.ensures.added (added_then _ _ _ _ _ c.push_count-2.ensures.added (added_then _ _ _ _ _ c.push_count-3.ensures.added c.push_count-4.ensures.added))));
+      room = omega (arith, c.new-text.ensures.size, c.push_all.ensures.size, c.push_count.ensures.room, c.push_count-2.ensures.room, c.push_count-3.ensures.room, c.push_count-4.ensures.room);
     }

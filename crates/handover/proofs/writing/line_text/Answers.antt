@@ -9,8 +9,8 @@ pub returns : goal.returns
 returns g c =
     let v = c.args.bench.now.values in
     let whole : v.count - 0 ≡ v.count = omega arith in
-    let fields = added_as _ _ _ _ (ap (λ n. fields_by (λ p. meant_text (g.K.Kind.means p)) (take n v.pairs)) whole) (c.push-values.ensures.added c.if-not-push-values.false) in (
-      writable_from g.K.Kind.means c.args.bench.now c.if-count-gt16.false c.if-not-push-values.ensures.meant,
-      spelled_then _ _ _ _ c.head_text.ensures.spelled (added_then _ _ _ _ _ fields c.push.ensures),
-      omega (arith, c.push.ensures.size, c.push-values.ensures.room),
+    let fields = added_as _ _ _ _ (ap (λ n. fields_by (λ p. meant_text (g.K.Kind.means p)) (take n v.pairs)) whole) (c.push_values.ensures.added c.if-not-push_values.false) in (
+      writable_from g.K.Kind.means c.args.bench.now c.if-count-gt16.false c.if-not-push_values.ensures.meant,
+      spelled_then _ _ _ _ c.head-text.ensures.spelled (added_then _ _ _ _ _ fields c.push.ensures),
+      omega (arith, c.push.ensures.size, c.push_values.ensures.room),
     )

@@ -9,18 +9,18 @@ use Rattle.handover.proofs.writing.push_values.Goals as goal
 pub loop-p-init : goal.loop-p-init
 loop-p-init g c = (added_none _, refl, omega arith)
 
-pub returns-then-not-push-value : goal.returns-then-not-push-value
-returns-then-not-push-value g c = record {
-  meant = sym (c.loop-p.invariant.1 ∙ meant_more g.K.Kind.means c.args.pairs.now c.loop-p.p-index _ _ c.loop-p-test.true c.if-not-push-value.ensures.meant);
+pub returns-then-not-push_value : goal.returns-then-not-push_value
+returns-then-not-push_value g c = record {
+  meant = sym (c.loop-p.invariant.1 ∙ meant_more g.K.Kind.means c.args.pairs.now c.loop-p.p-index _ _ c.loop-p-test.true c.if-not-push_value.ensures.meant);
   added = λ e. absurd (let z : ◌≡◌ {A = ℕ} 0 1 = cc in omega arith);
-  room = omega (arith, c.push-value.ensures.room, c.loop-p.invariant.2, c.requires.0, c.requires.1);
+  room = omega (arith, c.push_value.ensures.room, c.loop-p.invariant.2, c.requires.0, c.requires.1);
 }
 
 pub loop-p-preserved : goal.loop-p-preserved
 loop-p-preserved g c = (
-  added_as _ _ _ _ (fields_more (λ p. meant_text (g.K.Kind.means p)) c.args.pairs.now c.loop-p.p-index _ c.loop-p-test.true) (added_then _ _ _ _ _ c.loop-p.invariant.0 (c.push-value.ensures.added c.if-not-push-value.false)),
-  c.loop-p.invariant.1 ∙ meant_more g.K.Kind.means c.args.pairs.now c.loop-p.p-index _ _ c.loop-p-test.true c.if-not-push-value.ensures.meant,
-  omega (arith, c.push-value.ensures.room, c.loop-p.invariant.2),
+  added_as _ _ _ _ (fields_more (λ p. meant_text (g.K.Kind.means p)) c.args.pairs.now c.loop-p.p-index _ c.loop-p-test.true) (added_then _ _ _ _ _ c.loop-p.invariant.0 (c.push_value.ensures.added c.if-not-push_value.false)),
+  c.loop-p.invariant.1 ∙ meant_more g.K.Kind.means c.args.pairs.now c.loop-p.p-index _ _ c.loop-p-test.true c.if-not-push_value.ensures.meant,
+  omega (arith, c.push_value.ensures.room, c.loop-p.invariant.2),
 )
 
 pub returns : goal.returns

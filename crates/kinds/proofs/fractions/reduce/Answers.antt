@@ -13,21 +13,21 @@ divisor n d g u v fn fd eu ev e = e ∙ ap₂ gcd (eu ∙ ap nat_abs (to_z-of_z 
 fits : (z : ℤ) (g : ℕ) → SFits w64 z → g < 2 ^ 63 → SFits w64 (quot_z (to_z w64 (of_z w64 z)) (to_z w64 g))
 fits z g f h = subst (SFits w64) (sym (ap₂ quot_z (to_z-of_z w64 z f) (to_z_pos w64 g h))) (quot_fits z g f)
 
-pub overflow-cast-g : goal.overflow-cast-g
-overflow-cast-g c =
-    let e = divisor _ _ _ _ _ c.ranges.n c.ranges.d c.unsigned-abs.ensures.value c.unsigned-abs-2.ensures.value c.common-g.ensures in
+pub overflow_cast-g : goal.overflow_cast-g
+overflow_cast-g c =
+    let e = divisor _ _ _ _ _ c.ranges.n c.ranges.d c.unsigned_abs.ensures.value c.unsigned_abs-2.ensures.value c.common-g.ensures in
     let b = common_small c.args.n _ _ c.ranges.d c.requires e in
     omega (arith, ints)
 
-pub nonzero-div-a : goal.nonzero-div-a
-nonzero-div-a c =
-    let e = divisor _ _ _ _ _ c.ranges.n c.ranges.d c.unsigned-abs.ensures.value c.unsigned-abs-2.ensures.value c.common-g.ensures in
+pub nonzero_div-a : goal.nonzero_div-a
+nonzero_div-a c =
+    let e = divisor _ _ _ _ _ c.ranges.n c.ranges.d c.unsigned_abs.ensures.value c.unsigned_abs-2.ensures.value c.common-g.ensures in
     let b = common_small c.args.n _ _ c.ranges.d c.requires e in
     (b.0, fits c.args.n c.common-g.result c.ranges.n b.1)
 
-pub nonzero-div-b : goal.nonzero-div-b
-nonzero-div-b c =
-    let e = divisor _ _ _ _ _ c.ranges.n c.ranges.d c.unsigned-abs.ensures.value c.unsigned-abs-2.ensures.value c.common-g.ensures in
+pub nonzero_div-b : goal.nonzero_div-b
+nonzero_div-b c =
+    let e = divisor _ _ _ _ _ c.ranges.n c.ranges.d c.unsigned_abs.ensures.value c.unsigned_abs-2.ensures.value c.common-g.ensures in
     let b = common_small c.args.n _ _ c.ranges.d c.requires e in
     (b.0, fits c.args.d c.common-g.result c.ranges.d b.1)
 
@@ -36,7 +36,7 @@ returns-then-a c =
     let n = c.args.n in
     let d = c.args.d in
     let g = c.common-g.result in
-    let e = divisor _ _ _ _ _ c.ranges.n c.ranges.d c.unsigned-abs.ensures.value c.unsigned-abs-2.ensures.value c.common-g.ensures in
+    let e = divisor _ _ _ _ _ c.ranges.n c.ranges.d c.unsigned_abs.ensures.value c.unsigned_abs-2.ensures.value c.common-g.ensures in
     let b = common_small c.args.n _ _ c.ranges.d c.requires e in
     let qa = quot_back n g c.ranges.n b.1 in
     let qb = quot_back d g c.ranges.d b.1 in
@@ -48,7 +48,7 @@ returns c =
     let n = c.args.n in
     let d = c.args.d in
     let g = c.common-g.result in
-    let e = divisor _ _ _ _ _ c.ranges.n c.ranges.d c.unsigned-abs.ensures.value c.unsigned-abs-2.ensures.value c.common-g.ensures in
+    let e = divisor _ _ _ _ _ c.ranges.n c.ranges.d c.unsigned_abs.ensures.value c.unsigned_abs-2.ensures.value c.common-g.ensures in
     let b = common_small c.args.n _ _ c.ranges.d c.requires e in
     let qa = quot_back n g c.ranges.n b.1 in
     let qb = quot_back d g c.ranges.d b.1 in

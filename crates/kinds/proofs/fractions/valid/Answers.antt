@@ -22,4 +22,4 @@ returns c =
     let fa : SFits w64 c.args.p.a = search rules in
     let fb : SFits w64 c.args.p.b = search rules in
     within_yes a b c.common.result (omega (arith, ints)) (omega (arith, ints)) (omega (arith, ints))
-    (c.common.ensures ∙ ap₂ gcd (c.unsigned-abs.ensures.value ∙ ap nat_abs (to_z-of_z w64 a fa)) (c.unsigned-abs-2.ensures.value ∙ ap nat_abs (to_z-of_z w64 b fb)))
+    (c.common.ensures ∙ ap₂ gcd (c.unsigned_abs.ensures.value ∙ ap nat_abs (to_z-of_z w64 a fa)) (c.unsigned_abs-2.ensures.value ∙ ap nat_abs (to_z-of_z w64 b fb)))

@@ -8,29 +8,29 @@ use Rattle.kinds.proofs.thousandths.count.Goals.{then-c-via-then-c, then-c-via-e
 
 pub returns-then-d-ne0 : goal.returns-then-d-ne0
 returns-then-d-ne0 c =
-    let D = c.unsigned-abs-d.ensures.value ∙ ap nat_abs (to_z-of_z w64 c.args.b c.ranges.b) in
+    let D = c.unsigned_abs-d.ensures.value ∙ ap nat_abs (to_z-of_z w64 c.args.b c.ranges.b) in
     count_no c.args.a (nat_abs c.args.b) (inl (λ z. c.if-d-ne0.true (ap (λ x. 1000 % x) D ∙ z)))
 
-pub overflow-mul-c : goal.overflow-mul-c
-overflow-mul-c c =
-    let D = c.unsigned-abs-d.ensures.value ∙ ap nat_abs (to_z-of_z w64 c.args.b c.ranges.b) in
-    let m = made c.args.a c.unsigned-abs-d.result (nat_abs c.args.b) c.ranges.a c.requires.0 D in
-    let z = m.size-is in
+pub overflow_mul-c : goal.overflow_mul-c
+overflow_mul-c c =
+    let D = c.unsigned_abs-d.ensures.value ∙ ap nat_abs (to_z-of_z w64 c.args.b c.ranges.b) in
+    let m = made c.args.a c.unsigned_abs-d.result (nat_abs c.args.b) c.ranges.a c.requires.0 D in
+    let z = m.size_is in
     let f = m.fits in
     f
 
 pub returns-then-c : goal.returns-then-c
 returns-then-c c =
-    let D = c.unsigned-abs-d.ensures.value ∙ ap nat_abs (to_z-of_z w64 c.args.b c.ranges.b) in
-    let m = made c.args.a c.unsigned-abs-d.result (nat_abs c.args.b) c.ranges.a c.requires.0 D in
-    let z = m.size-is in
+    let D = c.unsigned_abs-d.ensures.value ∙ ap nat_abs (to_z-of_z w64 c.args.b c.ranges.b) in
+    let m = made c.args.a c.unsigned_abs-d.result (nat_abs c.args.b) c.ranges.a c.requires.0 D in
+    let z = m.size_is in
     let f = m.fits in
     count_no c.args.a (nat_abs c.args.b) (inr (elim c.then-c.branch [ then-c-via-then-c w ↦ omega (arith, ints) | then-c-via-else-c+then-c-gt-LIMIT w ↦ omega (arith, ints) ]))
 
 pub returns : goal.returns
 returns c =
-    let D = c.unsigned-abs-d.ensures.value ∙ ap nat_abs (to_z-of_z w64 c.args.b c.ranges.b) in
-    let m = made c.args.a c.unsigned-abs-d.result (nat_abs c.args.b) c.ranges.a c.requires.0 D in
-    let z = m.size-is in
+    let D = c.unsigned_abs-d.ensures.value ∙ ap nat_abs (to_z-of_z w64 c.args.b c.ranges.b) in
+    let m = made c.args.a c.unsigned_abs-d.result (nat_abs c.args.b) c.ranges.a c.requires.0 D in
+    let z = m.size_is in
     let f = m.fits in
     ap (λ x. Ok (count_from x)) (to_z-of_z w64 _ f ∙ m.value) ∙ count_yes c.args.a (nat_abs c.args.b) (ap (λ x. 1000 % x) (sym D) ∙ c.if-d-ne0.false) (omega (arith, ints))

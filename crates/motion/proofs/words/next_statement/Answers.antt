@@ -7,9 +7,9 @@ loop-i-preserved-in-Rate c = ((λ h. omega arith), λ all e. next_rate c.args.wo
 
 pub loop-i-preserved-in-Else : goal.loop-i-preserved-in-Else
 loop-i-preserved-in-Else c = (
-  (λ h. omega (arith, c.leave-block-i.ensures.within)),
+  (λ h. omega (arith, c.leave_block-i.ensures.within)),
   λ all e.
-      c.leave-block-i.ensures.left all e
+      c.leave_block-i.ensures.left all e
       ∙ next_else c.args.words.now all e c.loop-i.i (c.loop-i.i + 1) (omega arith) (omega arith) c.in-Else.is
       ∙ c.loop-i.invariant.1 all e,
 )

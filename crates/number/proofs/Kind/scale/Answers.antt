@@ -6,19 +6,19 @@ use Rattle.number.proofs.Kind.scale.Goals as goal
 
 pub product-requires : goal.product-requires
 product-requires g c =
-    let p = sizes g.Self.Kind.means g.Self.Kind.code g.met.Self.Kind.sound c.args.p c.in-ok-a.a c.in-ok-a.b c.in-ok-a.ensures in
+    let p = sizes g.Self.Kind.means g.Self.Kind.code g.met.Self.Kind.sound c.args.p c.in_ok-a.a c.in_ok-a.b c.in_ok-a.ensures in
     let n = to_z_pos w64 c.args.n (omega arith) in
     let k = to_z_pos w64 c.args.k (omega arith) in
     (omega (arith, ints), omega (arith, ints))
 
 pub product-requires-2 : goal.product-requires-2
 product-requires-2 g c =
-    let p = sizes g.Self.Kind.means g.Self.Kind.code g.met.Self.Kind.sound c.args.p c.in-ok-a.a c.in-ok-a.b c.in-ok-a.ensures in
+    let p = sizes g.Self.Kind.means g.Self.Kind.code g.met.Self.Kind.sound c.args.p c.in_ok-a.a c.in_ok-a.b c.in_ok-a.ensures in
     let n = to_z_pos w64 c.args.n (omega arith) in
     let k = to_z_pos w64 c.args.k (omega arith) in
     (omega (arith, ints), omega (arith, ints))
 
 pub returns : goal.returns
 returns g c =
-    let P = read g.Self.Kind.means g.Self.Kind.code g.met.Self.Kind.sound c.args.p c.in-ok-a.a c.in-ok-a.b c.in-ok-a.ensures in
-    returns_scale g.Self.Kind.means g.Self.Kind.code c.args.p c.args.n c.args.k c.in-ok-a.a c.in-ok-a.b c.product.result c.product-2.result c.take.result P (omega arith) (omega arith) (omega arith) c.product.ensures.bound c.product-2.ensures.bound c.product.ensures.value c.product-2.ensures.value c.take.ensures
+    let P = read g.Self.Kind.means g.Self.Kind.code g.met.Self.Kind.sound c.args.p c.in_ok-a.a c.in_ok-a.b c.in_ok-a.ensures in
+    returns_scale g.Self.Kind.means g.Self.Kind.code c.args.p c.args.n c.args.k c.in_ok-a.a c.in_ok-a.b c.product.result c.product-2.result c.take.result P (omega arith) (omega arith) (omega arith) c.product.ensures.bound c.product-2.ensures.bound c.product.ensures.value c.product-2.ensures.value c.take.ensures

@@ -15,14 +15,14 @@ loop-i-init g c =
 
 pub loop-i-preserved : goal.loop-i-preserved
 loop-i-preserved g c = (
-  omega (arith, c.in-ok-item.ensures.deep),
-  c.loop-i.invariant.1 ∙ turn (numbers_of g.K.Kind.means g.K.Kind.code) c.args.env.now c.args.items.now c.args.places.now c.args.line c.args.field c.loop-i.i _ _ c.loop-i.stack c.item.new.stack (Ok tt) c.loop-i-test.true c.requires.1.0 c.in-ok-item.ensures.waits,
+  omega (arith, c.in_ok-item.ensures.deep),
+  c.loop-i.invariant.1 ∙ turn (numbers_of g.K.Kind.means g.K.Kind.code) c.args.env.now c.args.items.now c.args.places.now c.args.line c.args.field c.loop-i.i _ _ c.loop-i.stack c.item.new.stack (Ok tt) c.loop-i-test.true c.requires.1.0 c.in_ok-item.ensures.waits,
 )
 
-pub returns-in-err-item : goal.returns-in-err-item
-returns-in-err-item g c =
-    let p = err_from_is_err_and c.from-residual.result c.from-residual.ensures.1 in
-    let e = c.loop-i.invariant.1 ∙ turn (numbers_of g.K.Kind.means g.K.Kind.code) c.args.env.now c.args.items.now c.args.places.now c.args.line c.args.field c.loop-i.i _ _ c.loop-i.stack c.item.new.stack (Err c.in-err-item.field-0.0) c.loop-i-test.true c.requires.1.0 c.in-err-item.ensures.waits in
+pub returns-in_err-item : goal.returns-in_err-item
+returns-in_err-item g c =
+    let p = err_from_is_err_and c.from_residual.result c.from_residual.ensures.1 in
+    let e = c.loop-i.invariant.1 ∙ turn (numbers_of g.K.Kind.means g.K.Kind.code) c.args.env.now c.args.items.now c.args.places.now c.args.line c.args.field c.loop-i.i _ _ c.loop-i.stack c.item.new.stack (Err c.in_err-item.field-0.0) c.loop-i-test.true c.requires.1.0 c.in_err-item.ensures.waits in
     rw (p.1, p.2) (record { waits = sym e; deep = tt })
 
 pub returns : goal.returns

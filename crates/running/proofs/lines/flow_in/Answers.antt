@@ -6,7 +6,7 @@ use Rattle.motion.specs.Flow as F
 use Rattle.motion.specs.Pairs.{numbers_of}
 use Rattle.entries.specs.declared.rows.Row.{Row}
 use Rattle.entries.specs.Decoding.{part, rows_lines}
-use Rattle.check.specs.Scripts.{table_in, places_in, rows_in, lines_in}
+use Rattle.checker.specs.Scripts.{table_in, places_in, rows_in, lines_in}
 use Rattle.record.specs.Benches.{pairs_of}
 use Rattle.running.proofs.Lookups.{part_all, rates_behind, thrice}
 use Rattle.running.proofs.lines.flow_in.Goals as goal

@@ -5,7 +5,7 @@ use Rattle.motion.specs.Items.{number_of}
 use Rattle.motion.specs.Pairs.{numbers_of}
 use Rattle.entries.specs.Decoding.{part, items_of}
 use Rattle.entries.proofs.Parts.{parts_alike}
-use Rattle.check.specs.Scripts.{table_in, places_in}
+use Rattle.checker.specs.Scripts.{table_in, places_in}
 use Rattle.record.specs.Benches.{pairs_of}
 use Rattle.postfix.specs.Located.{located}
 use Rattle.running.proofs.Lookups.{part_short, from_first, thrice}

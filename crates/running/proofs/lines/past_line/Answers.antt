@@ -1,5 +1,5 @@
 use Rattle.std.proofs.Common.{◌≡◌, length, ap, ◌∙◌, arith}
-use Rattle.check.specs.Scripts.{table_in, places_in, rows_in, lines_in}
+use Rattle.checker.specs.Scripts.{table_in, places_in, rows_in, lines_in}
 use Rattle.running.proofs.Lookups.{lines_long, past_all}
 use Rattle.running.proofs.lines.past_line.Goals as goal
 

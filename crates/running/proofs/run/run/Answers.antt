@@ -2,7 +2,7 @@ use Rattle.std.proofs.Common.{◌≡◌, ℕ, ◌+◌, ◌-◌, ◌≤◌, IfOk,
 use Rattle.std.proofs.lemmas.Result.{err_from_is_err_and}
 use Rattle.motion.specs.Pairs.{numbers_of}
 use Rattle.motion.specs.Machine as M
-use Rattle.check.specs.Scripts.{lines_in}
+use Rattle.checker.specs.Scripts.{lines_in}
 use Rattle.record.specs.Refusals.{number_of}
 use Rattle.record.specs.Benches.{pairs_of}
 use Rattle.running.specs.declared.steps.Outcome.{Outcome}
@@ -13,23 +13,23 @@ use Rattle.running.proofs.run.run.Goals as goal
 pub step-requires : goal.step-requires
 step-requires g c = omega (arith, c.loop-i.invariant.0, c.requires)
 
-pub returns-then-is-ended : goal.returns-then-is-ended
-returns-then-is-ended g c =
+pub returns-then-is_ended : goal.returns-then-is_ended
+returns-then-is_ended g c =
     let N = numbers_of g.K.Kind.means g.K.Kind.code in
     let s = c.args.script.now in
     record {
-      answer = λ h. c.finish.ensures.answer h ∙ sym (c.loop-i.invariant.1 h ∙ loop_ended N (lines_in s) c.args.total (c.args.allowance - c.loop-i.i) c.loop-i.i (pairs_of c.loop-i.values) c.loop-i.t (seen_place c.loop-i.standing) c.if-is-ended.ensures);
+      answer = λ h. c.finish.ensures.answer h ∙ sym (c.loop-i.invariant.1 h ∙ loop_ended N (lines_in s) c.args.total (c.args.allowance - c.loop-i.i) c.loop-i.i (pairs_of c.loop-i.values) c.loop-i.t (seen_place c.loop-i.standing) c.if-is_ended.ensures);
       count = subst (λ (k : ℕ). IfOk c.finish.result (λ p. p.1.values.count ≡ k)) c.loop-i.invariant.0 c.finish.ensures.count;
     }
 
-pub returns-in-err-outcome : goal.returns-in-err-outcome
-returns-in-err-outcome g c =
+pub returns-in_err-outcome : goal.returns-in_err-outcome
+returns-in_err-outcome g c =
     let N = numbers_of g.K.Kind.means g.K.Kind.code in
     let s = c.args.script.now in
-    let p = err_from_is_err_and c.from-residual.result c.from-residual.ensures.1 in
-    let x = c.in-err-outcome.field-0.0 in
+    let p = err_from_is_err_and c.from_residual.result c.from_residual.ensures.1 in
+    let x = c.in_err-outcome.field-0.0 in
     rw (p.1, p.2) (record {
-      answer = λ h. sym (c.loop-i.invariant.1 h ∙ loop_fail N (lines_in s) c.args.total c.args.allowance c.loop-i.i (pairs_of c.loop-i.values) c.loop-i.t (seen_place c.loop-i.standing) c.loop-i-test.true c.if-is-ended.ensures (number_of x.reason) x.line x.field (c.in-err-outcome.ensures.step h));
+      answer = λ h. sym (c.loop-i.invariant.1 h ∙ loop_fail N (lines_in s) c.args.total c.args.allowance c.loop-i.i (pairs_of c.loop-i.values) c.loop-i.t (seen_place c.loop-i.standing) c.loop-i-test.true c.if-is_ended.ensures (number_of x.reason) x.line x.field (c.in_err-outcome.ensures.step h));
       count = tt;
     })
 
@@ -39,21 +39,21 @@ returns-in-Stop g c =
     let s = c.args.script.now in
     record {
       answer = λ h.
-          let q = ap (λ (o : Outcome). seen_step (Ok o)) (sym c.in-Stop.is) ∙ c.in-ok-outcome.ensures.step h in
-          sym (c.loop-i.invariant.1 h ∙ loop_stop N (lines_in s) c.args.total c.args.allowance c.loop-i.i (pairs_of c.loop-i.values) c.loop-i.t (seen_place c.loop-i.standing) c.loop-i-test.true c.if-is-ended.ensures c.in-Stop.line c.in-Stop.left (pairs_of c.in-Stop.after) q);
-      count = subst (Keeps c.loop-i.values.count) c.in-Stop.is c.in-ok-outcome.ensures.kept ∙ c.loop-i.invariant.0;
+          let q = ap (λ (o : Outcome). seen_step (Ok o)) (sym c.in-Stop.is) ∙ c.in_ok-outcome.ensures.step h in
+          sym (c.loop-i.invariant.1 h ∙ loop_stop N (lines_in s) c.args.total c.args.allowance c.loop-i.i (pairs_of c.loop-i.values) c.loop-i.t (seen_place c.loop-i.standing) c.loop-i-test.true c.if-is_ended.ensures c.in-Stop.line c.in-Stop.left (pairs_of c.in-Stop.after) q);
+      count = subst (Keeps c.loop-i.values.count) c.in-Stop.is c.in_ok-outcome.ensures.kept ∙ c.loop-i.invariant.0;
     }
 
 pub loop-i-preserved : goal.loop-i-preserved
 loop-i-preserved g c =
     let N = numbers_of g.K.Kind.means g.K.Kind.code in
     let s = c.args.script.now in (
-      subst (Keeps c.loop-i.values.count) c.in-Go.is c.in-ok-outcome.ensures.kept ∙ c.loop-i.invariant.0,
+      subst (Keeps c.loop-i.values.count) c.in-Go.is c.in_ok-outcome.ensures.kept ∙ c.loop-i.invariant.0,
       λ h.
-          let q = ap (λ (o : Outcome). seen_step (Ok o)) (sym c.in-Go.is) ∙ c.in-ok-outcome.ensures.step h in
+          let q = ap (λ (o : Outcome). seen_step (Ok o)) (sym c.in-Go.is) ∙ c.in_ok-outcome.ensures.step h in
           c.loop-i.invariant.1 h
-          ∙ loop_go N (lines_in s) c.args.total c.args.allowance c.loop-i.i (pairs_of c.loop-i.values) c.loop-i.t (seen_place c.loop-i.standing) c.loop-i-test.true c.if-is-ended.ensures c.in-Go.line (pairs_of c.in-Go.after) c.in-Go.rest q
-          ∙ ap (λ (p : M.Place). M.loop N (lines_in s) c.args.total (c.args.allowance - (c.loop-i.i + 1)) (c.loop-i.i + 1) (pairs_of c.in-Go.after) c.in-Go.rest p) (sym (c.standing-at-standing.ensures h)),
+          ∙ loop_go N (lines_in s) c.args.total c.args.allowance c.loop-i.i (pairs_of c.loop-i.values) c.loop-i.t (seen_place c.loop-i.standing) c.loop-i-test.true c.if-is_ended.ensures c.in-Go.line (pairs_of c.in-Go.after) c.in-Go.rest q
+          ∙ ap (λ (p : M.Place). M.loop N (lines_in s) c.args.total (c.args.allowance - (c.loop-i.i + 1)) (c.loop-i.i + 1) (pairs_of c.in-Go.after) c.in-Go.rest p) (sym (c.standing_at-standing.ensures h)),
     )
 
 pub returns : goal.returns

@@ -1,7 +1,7 @@
 use Rattle.std.proofs.Common.{◌≡◌, ◌-◌, ◌≤◌}
 use Rattle.motion.specs.Pairs.{numbers_of}
 use Rattle.motion.specs.Machine as M
-use Rattle.check.specs.Scripts.{lines_in, Laid}
+use Rattle.checker.specs.Scripts.{lines_in, Laid}
 use Rattle.record.specs.Benches.{pairs_of}
 use Rattle.running.specs.Steps.{seen_place}
 use Rattle.running.proofs.run.run.Given as goal

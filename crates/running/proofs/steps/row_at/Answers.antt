@@ -1,6 +1,6 @@
 use Rattle.std.proofs.Common.{◌≡◌, ◌-◌, ◌<◌, ◌≤◌, List, length, get_or, sym, refl, ap, ◌∙◌, subst, arith}
 use Rattle.entries.specs.declared.rows.Row.{Row}
-use Rattle.check.specs.Scripts.{table_in, places_in, rows_in, lines_in}
+use Rattle.checker.specs.Scripts.{table_in, places_in, rows_in, lines_in}
 use Rattle.motion.specs.NextLine.{line_at}
 use Rattle.entries.specs.Decoding.{row_line}
 use Rattle.running.proofs.Lookups.{line_there, line_nowhere, all_at}

@@ -2,17 +2,17 @@ use Rattle.std.proofs.Common.{◌≡◌, arith}
 use Rattle.std.proofs.lemmas.Result.{err_from_is_err_and}
 use Rattle.motion.specs.Pairs.{numbers_of}
 use Rattle.entries.specs.Decoding.{part, items_of}
-use Rattle.check.specs.Scripts.{table_in, places_in, lines_in}
+use Rattle.checker.specs.Scripts.{table_in, places_in, lines_in}
 use Rattle.record.specs.Benches.{pairs_of}
 use Rattle.running.proofs.Known.{run_fails}
 use Rattle.running.proofs.steps.start.Goals as goal
 
-pub returns-in-err-q : goal.returns-in-err-q
-returns-in-err-q g c =
-    let p = err_from_is_err_and c.from-residual.result c.from-residual.ensures.1 in
+pub returns-in_err-q : goal.returns-in_err-q
+returns-in_err-q g c =
+    let p = err_from_is_err_and c.from_residual.result c.from_residual.ensures.1 in
     let s = c.args.script.now in
     let row = c.args.row in
     rw (p.1, p.2) (record {
-      step = λ h short. run_fails (numbers_of g.K.Kind.means g.K.Kind.code) (lines_in s) (pairs_of c.args.values.now) c.args.t c.args.n c.in-err-q.field-0.0 (items_of (part row.from row.to (table_in s)) (part row.from row.to (places_in s))) (c.in-err-q.ensures h short (omega arith));
+      step = λ h short. run_fails (numbers_of g.K.Kind.means g.K.Kind.code) (lines_in s) (pairs_of c.args.values.now) c.args.t c.args.n c.in_err-q.field-0.0 (items_of (part row.from row.to (table_in s)) (part row.from row.to (places_in s))) (c.in_err-q.ensures h short (omega arith));
       kept = tt;
     })

@@ -8,7 +8,7 @@ loop-b-preserved c =
     let l = c.loop-b in
     let i = c.loop-b-test.true in
     let n = c.note-stray.ensures in
-    elim c.if-b-eq10.branch [ then-b-eq10 w ↦ (omega arith, omega (arith, w.feeds_is), omega (arith, w.commas-is), l.invariant.3 ∙ feed_more _ _ _ i w.if-b-eq10.true ∙ rw w.feeds_is, l.invariant.4 ∙ note_feed _ _ _ _ _ i _ n w.if-b-eq10.true ∙ rw (w.feeds_is, w.commas-is)) | else-b-eq10+then-b-eq44 w ↦ (omega arith, omega (arith, w.feeds_is), omega (arith, w.commas-is), l.invariant.3 ∙ feed_same _ _ _ i w.if-b-eq10.false ∙ rw w.feeds_is, l.invariant.4 ∙ note_comma _ _ _ _ _ i _ n w.if-b-eq10.false w.if-b-eq44.true ∙ rw (w.feeds_is, w.commas-is)) | else-b-eq10+else-b-eq44 w ↦ (omega arith, omega (arith, w.feeds_is), omega (arith, w.commas-is), l.invariant.3 ∙ feed_same _ _ _ i w.if-b-eq10.false ∙ rw w.feeds_is, l.invariant.4 ∙ note_plain _ _ _ _ _ i _ n w.if-b-eq10.false w.if-b-eq44.false ∙ rw (w.feeds_is, w.commas-is)) ]
+    elim c.if-b-eq10.branch [ then-b-eq10 w ↦ (omega arith, omega (arith, w.feeds-is), omega (arith, w.commas-is), l.invariant.3 ∙ feed_more _ _ _ i w.if-b-eq10.true ∙ rw w.feeds-is, l.invariant.4 ∙ note_feed _ _ _ _ _ i _ n w.if-b-eq10.true ∙ rw (w.feeds-is, w.commas-is)) | else-b-eq10+then-b-eq44 w ↦ (omega arith, omega (arith, w.feeds-is), omega (arith, w.commas-is), l.invariant.3 ∙ feed_same _ _ _ i w.if-b-eq10.false ∙ rw w.feeds-is, l.invariant.4 ∙ note_comma _ _ _ _ _ i _ n w.if-b-eq10.false w.if-b-eq44.true ∙ rw (w.feeds-is, w.commas-is)) | else-b-eq10+else-b-eq44 w ↦ (omega arith, omega (arith, w.feeds-is), omega (arith, w.commas-is), l.invariant.3 ∙ feed_same _ _ _ i w.if-b-eq10.false ∙ rw w.feeds-is, l.invariant.4 ∙ note_plain _ _ _ _ _ i _ n w.if-b-eq10.false w.if-b-eq44.false ∙ rw (w.feeds-is, w.commas-is)) ]
 
 pub returns : goal.returns
 returns c =

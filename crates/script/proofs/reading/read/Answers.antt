@@ -5,14 +5,14 @@ use Rattle.script.proofs.reading.read.Goals as goal
 
 pub returns : goal.returns
 returns c =
-    let e = c.read-checked.ensures.answer in
-    let a = c.read-checked.ensures.table in
+    let e = c.read_checked.ensures.answer in
+    let a = c.read_checked.ensures.table in
     let text = c.args.text.now in
     let table = c.args.table.now in
     record {
       answer = answer text (length table) _ e;
       table = fills text table _ _ e a;
-      text = c.read-checked.ensures.text;
+      text = c.read_checked.ensures.text;
       rules = rules text (length table) _ e;
       alone = alone text (length table);
       again = again text (length table) _ e;

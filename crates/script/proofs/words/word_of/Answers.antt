@@ -10,9 +10,9 @@ returns-in-Some c =
     let e : Some (word.Line c.in-Some.word) ≡ word_of c.args.bytes.now = search rules in
     record { word = e; letters = spelled_by _ _ e }
 
-pub returns-in-Some-operator-of : goal.returns-in-Some-operator-of
-returns-in-Some-operator-of c =
-    let e : Some (word.Item c.in-Some-operator-of.operator) ≡ word_of c.args.bytes.now = search rules in
+pub returns-in-Some-operator_of : goal.returns-in-Some-operator_of
+returns-in-Some-operator_of c =
+    let e : Some (word.Item c.in-Some-operator_of.operator) ≡ word_of c.args.bytes.now = search rules in
     record { word = e; letters = spelled_by _ _ e }
 
 pub returns-then-spells : goal.returns-then-spells

@@ -1,5 +1,5 @@
 use Rattle.std.proofs.Common.{refl, ap, ◌∙◌}
-use Rattle.check.specs.Scripts.{lines_in}
+use Rattle.checker.specs.Scripts.{lines_in}
 use Rattle.record.specs.Benches.{bench_of}
 use Rattle.bench.proofs.First.{lines_few, values_few}
 use Rattle.series.specs.Series.{handed}
@@ -10,7 +10,7 @@ pub returns-else-room-lt411 : goal.returns-else-room-lt411
 returns-else-room-lt411 g c =
     let s = c.args.script.now in
     record {
-      answer = λ h few. c.hand-over-with-else-room-lt411.ensures.answer h few ∙ ap handed (room_same g.K.Kind.means g.K.Kind.code g.met.K.Kind.sound (lines_in s) (lines_few s g.K.Kind.means g.K.Kind.code h) (values_few s g.K.Kind.means g.K.Kind.code h) (bench_of c.args.bench.now) 411 c.args.room refl c.if-room-lt411.false);
-      same = c.hand-over-with-else-room-lt411.ensures.same;
-      few = c.hand-over-with-else-room-lt411.ensures.few;
+      answer = λ h few. c.hand_over_with-else-room-lt411.ensures.answer h few ∙ ap handed (room_same g.K.Kind.means g.K.Kind.code g.met.K.Kind.sound (lines_in s) (lines_few s g.K.Kind.means g.K.Kind.code h) (values_few s g.K.Kind.means g.K.Kind.code h) (bench_of c.args.bench.now) 411 c.args.room refl c.if-room-lt411.false);
+      same = c.hand_over_with-else-room-lt411.ensures.same;
+      few = c.hand_over_with-else-room-lt411.ensures.few;
     }

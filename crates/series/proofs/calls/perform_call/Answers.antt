@@ -2,7 +2,7 @@ use Rattle.std.proofs.Common.{◌≡◌, ℕ, ◌≤◌, cond, List, sym, refl, 
 use Rattle.motion.specs.Pairs.{numbers_of}
 use Rattle.motion.specs.Machine as M
 use Rattle.number.specs.declared.Pair.{Pair}
-use Rattle.check.specs.Scripts.{lines_in, variable_in}
+use Rattle.checker.specs.Scripts.{lines_in, variable_in}
 use Rattle.record.specs.Benches.{pairs_of, bench_of}
 use Rattle.running.proofs.Lookups.{from_first}
 use Rattle.bench.specs.Calls.{fitting, unfit, read_variable, joint_of}
@@ -42,7 +42,7 @@ returns-in-NextJoint g c =
     let s = c.args.script.now in
     let b = c.args.bench.now in
     record {
-      replies = λ h few. as_told g.K.Kind.means g.K.Kind.code (lines_in s) (variable_in s) (bench_of b) (bench_of b) c.args.call NextJoint (Joint c.next-joint.result) (Joint (joint_of b.left)) c.in-NextJoint.is (ap Joint c.next-joint.ensures.answer) asks;
+      replies = λ h few. as_told g.K.Kind.means g.K.Kind.code (lines_in s) (variable_in s) (bench_of b) (bench_of b) c.args.call NextJoint (Joint c.next_joint.result) (Joint (joint_of b.left)) c.in-NextJoint.is (ap Joint c.next_joint.ensures.answer) asks;
       few = λ few. few;
     }
 
@@ -62,7 +62,7 @@ returns-in-HandOver g c =
     let b = c.args.bench.now in
     let room = c.in-HandOver.room in
     record {
-      replies = λ h few. subst (Replies g.K.Kind.means g.K.Kind.code (lines_in s) (variable_in s) (bench_of b) c.args.call c.hand_reply.result) (sym (c.hand-over.ensures.same h))
-          (as_told g.K.Kind.means g.K.Kind.code (lines_in s) (variable_in s) (bench_of b) (bench_of b) c.args.call (HandOver room) c.hand_reply.result (hand_reply (handed (write_call g.K.Kind.means g.K.Kind.code (lines_in s) (bench_of b) room))) c.in-HandOver.is (c.hand_reply.ensures ∙ ap hand_reply (c.hand-over.ensures.answer h few)) hands_over);
-      few = c.hand-over.ensures.few;
+      replies = λ h few. subst (Replies g.K.Kind.means g.K.Kind.code (lines_in s) (variable_in s) (bench_of b) c.args.call c.hand_reply.result) (sym (c.hand_over.ensures.same h))
+          (as_told g.K.Kind.means g.K.Kind.code (lines_in s) (variable_in s) (bench_of b) (bench_of b) c.args.call (HandOver room) c.hand_reply.result (hand_reply (handed (write_call g.K.Kind.means g.K.Kind.code (lines_in s) (bench_of b) room))) c.in-HandOver.is (c.hand_reply.ensures ∙ ap hand_reply (c.hand_over.ensures.answer h few)) hands_over);
+      few = c.hand_over.ensures.few;
     }

@@ -9,6 +9,6 @@ returns-in-Ok g c =
     let told = c.in-Ok.ensures in
     record {
       answer = ap check_reply told.answer;
-      promise = promised c.in-Ok.script g.K.Kind.means g.K.Kind.code g.met.K.Kind.sound told.good c.args.draft.text.now c.perform-on.new.steps (bench_of c.perform-on.result) told.script.0 (c.perform-on.ensures.performed told.good);
-      calls = c.perform-on.ensures.calls;
+      promise = promised c.in-Ok.script g.K.Kind.means g.K.Kind.code g.met.K.Kind.sound told.good c.args.draft.text.now c.perform_on.new.steps (bench_of c.perform_on.result) told.script.0 (c.perform_on.ensures.performed told.good);
+      calls = c.perform_on.ensures.calls;
     }

@@ -1,6 +1,6 @@
 use Rattle.std.proofs.Common.{◌≡◌, ◌<◌, List, length, take, sym, refl, ap, ◌∙◌, subst, arith}
 use Rattle.std.proofs.lemmas.List.{take_more_set, take_all}
-use Rattle.check.specs.Scripts.{lines_in, variable_in}
+use Rattle.checker.specs.Scripts.{lines_in, variable_in}
 use Rattle.record.specs.Benches.{bench_of}
 use Rattle.bench.proofs.First.{values_held}
 use Rattle.series.specs.declared.calls.Step.{Step}
@@ -21,10 +21,10 @@ loop-i-preserved g c =
     let steps = c.loop-i.steps in
     let at = c.loop-i.i in
     let within : at < length steps = omega (arith, c.loop-i-test.true, c.loop-i.auto.steps) in (
-      c.perform-call-reply.ensures.few c.loop-i.invariant.0,
+      c.perform_call-reply.ensures.few c.loop-i.invariant.0,
       calls_same steps at _ _ refl within ∙ c.loop-i.invariant.1,
-      λ h. subst (λ (us : List Step). Performed g.K.Kind.means g.K.Kind.code (lines_in s) (variable_in s) us (bench_of c.perform-call-reply.new.bench)) (sym (take_more_set steps at _ within))
-          (sound_more s g.K.Kind.means g.K.Kind.code g.met.K.Kind.sound h (take at steps) (bench_of c.loop-i.bench) (bench_of c.perform-call-reply.new.bench) _ c.perform-call-reply.result (c.loop-i.invariant.2 h) (c.perform-call-reply.ensures.replies h c.loop-i.invariant.0)),
+      λ h. subst (λ (us : List Step). Performed g.K.Kind.means g.K.Kind.code (lines_in s) (variable_in s) us (bench_of c.perform_call-reply.new.bench)) (sym (take_more_set steps at _ within))
+          (sound_more s g.K.Kind.means g.K.Kind.code g.met.K.Kind.sound h (take at steps) (bench_of c.loop-i.bench) (bench_of c.perform_call-reply.new.bench) _ c.perform_call-reply.result (c.loop-i.invariant.2 h) (c.perform_call-reply.ensures.replies h c.loop-i.invariant.0)),
     )
 
 pub returns : goal.returns

@@ -1,5 +1,5 @@
 use Rattle.std.proofs.Common.{◌≡◌, ◌≤◌, map, take}
-use Rattle.check.specs.Scripts.{lines_in, variable_in, Sound}
+use Rattle.checker.specs.Scripts.{lines_in, variable_in, Sound}
 use Rattle.record.specs.Benches.{bench_of}
 use Rattle.series.specs.Series.{Performed, call_in}
 use Rattle.series.proofs.performing.perform_on.Given as goal

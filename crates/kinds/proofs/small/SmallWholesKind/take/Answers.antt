@@ -13,8 +13,8 @@ pub returns-then-p-ne1 : goal.returns-then-p-ne1
 returns-then-p-ne1 c =
     let n = c.args.n in
     let d = c.args.d in
-    let p = c.in-ok-p.p in
-    let L = taken_ok n d p (c.in-ok-p.ensures ∙ passed frac_of pair_of n d c.ranges.n c.ranges.d) in
+    let p = c.in_ok-p.p in
+    let L = taken_ok n d p (c.in_ok-p.ensures ∙ passed frac_of pair_of n d c.ranges.n c.ranges.d) in
     let fa = L.fit_a in
     let fb = L.fit_b in
     take_no n d p L
@@ -24,18 +24,18 @@ pub returns : goal.returns
 returns c =
     let n = c.args.n in
     let d = c.args.d in
-    let p = c.in-ok-p.p in
-    let L = taken_ok n d p (c.in-ok-p.ensures ∙ passed frac_of pair_of n d c.ranges.n c.ranges.d) in
+    let p = c.in_ok-p.p in
+    let L = taken_ok n d p (c.in_ok-p.ensures ∙ passed frac_of pair_of n d c.ranges.n c.ranges.d) in
     let fa = L.fit_a in
     let fb = L.fit_b in
     let one : p.b ≡ pos 1 = omega (arith, ints) in
     let few : nat_abs p.a ≤ 1000 = omega (arith, ints) in
     take_yes n d p L _ one few (shifted p.a fa (omega arith))
 
-pub returns-in-err-p : goal.returns-in-err-p
-returns-in-err-p c =
+pub returns-in_err-p : goal.returns-in_err-p
+returns-in_err-p c =
     let n = c.args.n in
     let d = c.args.d in
-    let r = err_from_is_err_and c.from-residual.result c.from-residual.ensures.1 in
-    let e = c.in-err-p.ensures ∙ passed frac_of pair_of n d c.ranges.n c.ranges.d in
+    let r = err_from_is_err_and c.from_residual.result c.from_residual.ensures.1 in
+    let e = c.in_err-p.ensures ∙ passed frac_of pair_of n d c.ranges.n c.ranges.d in
     rw (r.1, r.2) (taken_err small_of small_pair smalls_held n d _ e)

@@ -12,22 +12,22 @@ pub count-requires : goal.count-requires
 count-requires c =
     let n = c.args.n in
     let d = c.args.d in
-    let p = c.in-ok-p.p in
-    let L = taken_ok n d p (c.in-ok-p.ensures ∙ passed frac_of pair_of n d c.ranges.n c.ranges.d) in
+    let p = c.in_ok-p.p in
+    let L = taken_ok n d p (c.in_ok-p.ensures ∙ passed frac_of pair_of n d c.ranges.n c.ranges.d) in
     count_asks n d p L
 
 pub returns : goal.returns
 returns c =
     let n = c.args.n in
     let d = c.args.d in
-    let p = c.in-ok-p.p in
-    let L = taken_ok n d p (c.in-ok-p.ensures ∙ passed frac_of pair_of n d c.ranges.n c.ranges.d) in
+    let p = c.in_ok-p.p in
+    let L = taken_ok n d p (c.in_ok-p.ensures ∙ passed frac_of pair_of n d c.ranges.n c.ranges.d) in
     take_counts n d p c.count.result L c.count.ensures
 
-pub returns-in-err-p : goal.returns-in-err-p
-returns-in-err-p c =
+pub returns-in_err-p : goal.returns-in_err-p
+returns-in_err-p c =
     let n = c.args.n in
     let d = c.args.d in
-    let r = err_from_is_err_and c.from-residual.result c.from-residual.ensures.1 in
-    let e = c.in-err-p.ensures ∙ passed frac_of pair_of n d c.ranges.n c.ranges.d in
+    let r = err_from_is_err_and c.from_residual.result c.from_residual.ensures.1 in
+    let e = c.in_err-p.ensures ∙ passed frac_of pair_of n d c.ranges.n c.ranges.d in
     rw (r.1, r.2) (taken_err thousand_of count_of thousandths_held n d _ e)

@@ -6,7 +6,7 @@ pub returns-then-not-valid : goal.returns-then-not-valid
 returns-then-not-valid c = terms_no c.args.p c.if-not-valid.ensures
 
 pub returns : goal.returns
-returns c = terms_yes c.args.p c.in-ok-r.r c.if-not-valid.ensures c.in-ok-r.ensures
+returns c = terms_yes c.args.p c.in_ok-r.r c.if-not-valid.ensures c.in_ok-r.ensures
 
-pub returns-in-err-r : goal.returns-in-err-r
-returns-in-err-r c = absurd (terms_never c.args.p _ c.if-not-valid.ensures c.in-err-r.ensures)
+pub returns-in_err-r : goal.returns-in_err-r
+returns-in_err-r c = absurd (terms_never c.args.p _ c.if-not-valid.ensures c.in_err-r.ensures)

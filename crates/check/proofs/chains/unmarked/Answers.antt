@@ -1,5 +1,0 @@
-use Rattle.check.proofs.Marked.{none_there}
-use Rattle.check.proofs.chains.unmarked.Goals as goal
-
-pub returns : goal.returns
-returns c = none_there 256

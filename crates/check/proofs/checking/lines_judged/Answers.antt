@@ -1,5 +1,0 @@
-use Rattle.check.proofs.Passing.{line_passes, passes_line}
-use Rattle.check.proofs.checking.lines_judged.Goals as goal
-
-pub returns : goal.returns
-returns c = λ means code text p w n line q. (line_passes means code text p w n line q, passes_line means code text p w n line q)

@@ -1,0 +1,21 @@
+-- What a script that passed its check gives to a run. Assumes nothing.
+use Rattle.std.proofs.Common.{◌≡◌, ℕ, ◌≤◌, min, List, length, take, Option, sym, ap, ◌∙◌, subst, arith}
+use Rattle.std.proofs.lemmas.List.{length-take}
+use Rattle.number.specs.declared.Pair.{Pair}
+use Rattle.number.specs.Frac.{Frac}
+use Rattle.motion.specs.Lines.{Line}
+use Rattle.checker.specs.declared.checking.Checked.{Checked}
+use Rattle.checker.specs.Jumps.{Leads}
+use Rattle.checker.specs.Scripts.{rows_in, jumps_in, Sound, Laid}
+
+module _ {X : Type 0} (s : Checked X) (means : Pair → Option Frac) (code : Frac → Option Pair) where
+  -- a script that passed is laid out
+  pub laid : Sound s means code → Laid s
+  laid h =
+      let n : length (rows_in s) ≡ min s.plan.rows.count (length s.plan.rows.rows) = length-take s.plan.rows.count s.plan.rows.rows in
+      record {
+        placed = sym h.placed;
+        few = let k = h.few_lines in omega arith;
+        short = h.short;
+        leads = subst (λ (ls : List Line). Leads ls (jumps_in s)) (sym h.rows) h.jumps;
+      }

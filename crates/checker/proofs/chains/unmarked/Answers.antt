@@ -1,0 +1,5 @@
+use Rattle.checker.proofs.Marked.{none_there}
+use Rattle.checker.proofs.chains.unmarked.Goals as goal
+
+pub returns : goal.returns
+returns c = none_there 256

@@ -1,0 +1,241 @@
+// A draft is checked for a kind of number.
+ghost use Rattle.std.specs.Prelude.{◌≡◌, ℕ, ◌+◌, ◌<◌, ◌≤◌, List, map, length, take, IfOk, MatchOption, MatchResult, slice_index};
+ghost use Rattle.entries.specs.Fields.{lines};
+ghost use Rattle.checker.specs.Conditions.{Kept, declared_names};
+ghost use Rattle.entries.specs.Decoding.{rows_lines, line_of};
+ghost use Rattle.checker.specs.Chains.{chains_check};
+ghost use Rattle.checker.specs.Laws.{KindsDifferByNumbers, LinesJudged, Good};
+ghost use Rattle.checker.specs.Verdict.{Judged, LinesOfText, LinesNumbered};
+ghost use Rattle.checker.specs.Scripts.{table_in, places_in, rows_in, jumps_in, variable_in, Sound, Laid};
+ghost use Rattle.checker.specs.Checking.{sized, other_table, open_check, entries_check, check_of, outcome, answer_of, Planned, Passed};
+
+use crate::chains::check_chains;
+use crate::jumps::{Jumps, find_jumps};
+use crate::line_ends::line_end;
+use crate::lines::{Past, check_lines};
+use crate::refusals::{Reason, Refusal, refuse};
+use crate::rows::{Places, Rows, find_places, find_rows};
+use entries::{Row, between, find_name, same_table};
+use number::Kind;
+use script::{Draft, Entry};
+use std::marker::PhantomData;
+
+// What is prepared for a script: its names, the places of its entries among them, its rows, and where a run goes on.
+#[derive(Clone, Copy)]
+pub struct Plan {
+    pub past: Past,
+    pub places: Places,
+    pub rows: Rows,
+    pub jumps: Jumps,
+}
+
+// Whether there are at most 256 lines, each of at most 18 entries.
+fn is_sized(table: &[Entry]) -> bool
+    ensures { result ≡ sized 0 (lines table.now) }
+{
+    let mut count: usize = 0;
+    let mut at: usize = 0;
+    while at < table.len() {
+        let to = line_end(table, at);
+        if count >= 256 || to - at > 18 {
+            return false;
+        }
+        at = to;
+        count += 1;
+    }
+    true
+}
+
+// 8: the table does not hold what the reader wrote.
+fn is_other_table(text: &[u8], fields: usize, table: &[Entry]) -> bool
+    ensures { result ≡ other_table text.now fields table.now }
+{
+    if table.len() < fields {
+        return true;
+    }
+    if fields > 4608 {
+        return true;
+    }
+    let entries = &table[..fields];
+    !same_table(text, entries) || !is_sized(entries)
+}
+
+// 13: a block is still open behind the last line.
+fn check_open(past: Past) -> Result<(), Refusal>
+    requires { Kept past }
+    ensures { result ≡ open_check past }
+{
+    if past.depth == 0 {
+        return Ok(());
+    }
+    Err(refuse(Reason::Blocks, past.blocks[past.depth - 1].line, 0))
+}
+
+// What is prepared for these entries.
+fn make_plan(text: &[u8], past: Past, table: &[Entry]) -> Option<Plan>
+    requires { (Kept past) × ((length table.now ≤ 4608) × (length (lines table.now) ≤ 256)) }
+    ensures { MatchOption result ⊥ (λ p. (p.past ≡ past) × Planned text.now table.now p) }
+{
+    let places = find_places(text, &past.names[..past.declared], table);
+    match find_rows(text, &past.names[..past.declared], table) {
+        Some(rows) => Some(Plan {
+            past,
+            places,
+            rows,
+            jumps: find_jumps(&rows.rows[..rows.count]),
+        }),
+        None => None,
+    }
+}
+
+// 15: run by run.
+fn check_plan(text: &[u8], plan: Plan, table: &[Entry]) -> Result<(), Refusal>
+    requires { (Planned text.now table.now plan) × (length table.now ≤ 4608) }
+    ensures { result ≡ chains_check 1 (map (line_of text.now (declared_names plan.past)) (lines table.now)) }
+{
+    check_chains(
+        &plan.rows.rows[..plan.rows.count],
+        table,
+        &plan.places.of[..table.len()],
+    )
+}
+
+// These entries of a text, line by line; then blocks left open; then run by run.
+fn check_entries<K: Kind>(text: &[u8], table: &[Entry]) -> Result<Plan, Refusal>
+    requires { (length table.now ≤ 4608) × (length (lines table.now) ≤ 256) }
+    ensures answer { outcome result ≡ entries_check K.Kind.means K.Kind.code text.now table.now }
+    ensures plan { IfOk result (Planned text.now table.now) }
+    ensures passed { IfOk result (λ p. Passed K.Kind.means K.Kind.code text.now table.now p.past) }
+{
+    let past = check_lines::<K>(text, table)?;
+    check_open(past)?;
+    let Some(plan) = make_plan(text, past, table) else {
+        return Err(refuse(Reason::OtherTable, 0, 0));
+    };
+    check_plan(text, plan, table)?;
+    Ok(plan)
+}
+
+// A script that passed its check for the kind K. It reads the table for as long as it lives.
+#[derive_where(Clone, Copy)]
+pub struct Checked<'t, 'a, K> {
+    text: &'t [u8],
+    table: &'a [Entry],
+    plan: Plan,
+    kind: PhantomData<K>,
+}
+
+// Checks a draft for the kind K. Accepted: the checked script. Refused: the draft as it was, and why.
+pub fn check<'t, 'a, K: Kind>(
+    draft: Draft<'t>,
+    table: &'a [Entry],
+) -> Result<Checked<'t, 'a, K>, (Draft<'t>, Refusal)>
+    ensures answer { answer_of result ≡ check_of K.Kind.means K.Kind.code draft.entry.text.now draft.entry.fields table.now }
+    ensures judged { Judged K.Kind.means K.Kind.code draft.entry.text.now draft.entry.fields table.now (answer_of result) }
+    ensures good { IfOk result (λ s. Good K.Kind.means K.Kind.code s.text.now s.table.now s.plan) }
+    ensures script { MatchResult result (λ s. (s.text.now ≡ draft.entry.text.now) × (s.table.now ≡ take draft.entry.fields table.now) × Planned s.text.now s.table.now s.plan) (λ e. (e.0.text.now ≡ draft.entry.text.now) × (e.0.lines ≡ draft.entry.lines) × (e.0.fields ≡ draft.entry.fields)) }
+{
+    let text = draft.text();
+    let fields = draft.fields();
+    if is_other_table(text, fields, table) {
+        return Err((draft, refuse(Reason::OtherTable, 0, 0)));
+    }
+    let entries = &table[..fields];
+    match check_entries::<K>(text, entries) {
+        Ok(plan) => Ok(Checked {
+            text,
+            table: entries,
+            plan,
+            kind: PhantomData,
+        }),
+        Err(refusal) => Err((draft, refusal)),
+    }
+}
+
+impl<K> Checked<'_, '_, K> {
+    // How many variables the script declares.
+    pub fn variables(&self) -> usize
+        ensures { result ≡ self.now.plan.past.declared }
+    {
+        self.plan.past.declared
+    }
+
+    // How many lines it has.
+    pub fn lines(&self) -> usize
+        ensures { result ≡ self.now.plan.rows.count }
+    {
+        self.plan.rows.count
+    }
+
+    // Its entries.
+    pub fn table(&self) -> &[Entry]
+        ensures { result.now ≡ table_in self.now }
+    {
+        self.table
+    }
+
+    // The place of each entry among the variables; 16 where it is no name.
+    pub fn places(&self) -> &[u8]
+        ensures { result.now ≡ places_in self.now }
+    {
+        between(&self.plan.places.of, 0, self.table.len())
+    }
+
+    // Its rows, one for each line.
+    pub fn rows(&self) -> &[Row]
+        ensures { result.now ≡ rows_in self.now }
+    {
+        between(&self.plan.rows.rows, 0, self.plan.rows.count)
+    }
+
+    // The line of the next statement behind line n; 0 where there is no such line.
+    pub fn next(&self, n: usize) -> u32
+        ensures { n ≤ 256 → result ≡ slice_index (jumps_in self.now).next n }
+    {
+        if n < 257 {
+            self.plan.jumps.next[n] as u32
+        } else {
+            0
+        }
+    }
+
+    // The same where the body that begins behind line n is passed over.
+    pub fn past(&self, n: usize) -> u32
+        ensures { n ≤ 256 → result ≡ slice_index (jumps_in self.now).past n }
+    {
+        if n < 257 {
+            self.plan.jumps.past[n] as u32
+        } else {
+            0
+        }
+    }
+
+    // The place of this name among the variables.
+    pub fn variable(&self, name: &[u8]) -> Option<usize>
+        ensures { result ≡ variable_in self.now name.now }
+    {
+        let names = between(&self.plan.past.names, 0, self.plan.past.declared);
+        find_name(self.text, names, name)
+    }
+}
+
+// The check for one kind differs from that for another only by the numbers that they hold.
+pub fn kinds_differ_by_numbers()
+    ensures { KindsDifferByNumbers }
+{}
+
+// A line passes exactly where none of the conditions 9 to 14 holds.
+pub fn lines_judged()
+    ensures { LinesJudged }
+{}
+
+// What is prepared in a script that passed its check for K is laid out as a run goes through it.
+pub fn scripts_laid<K: Kind>(script: &Checked<K>)
+    ensures { Sound script.now K.Kind.means K.Kind.code → Laid script.now }
+{}
+
+// The lines of which a check speaks are those of the text, by their numbers.
+pub fn lines_of_text()
+    ensures lines { LinesOfText }
+    ensures numbered { LinesNumbered }
+{}
