@@ -1,11 +1,11 @@
 -- What the code of thousandths computes.
-use Rattle.std.proofs.Common.{◌≡◌, ℕ, ◌*◌, ◌/◌, ◌%◌, ◌<◌, ◌≤◌, Bool, true, false, cond, T, ◌⊎◌, ℤ, pos, ◌*ℤ◌, nat_abs, ◌≤ℤ◌, Some, None, Ok, Err, Option, Result, sym, refl, ap, ◌∙◌, subst, ap₂, inl, inr, arith, w64, SFits, to_z}
+use Rattle.std.proofs.Common.{◌≡◌, ℕ, ◌*◌, ◌/◌, ◌%◌, ◌<◌, ◌≤◌, true, false, cond, T, ◌⊎◌, ℤ, pos, ◌*ℤ◌, nat_abs, ◌≤ℤ◌, Some, None, Ok, Err, Option, Result, sym, refl, ap, ◌∙◌, subst, ap₂, inl, inr, arith, w64, SFits, to_z}
 use native.Mathlib.Nat as N
 use Rattle.std.proofs.lemmas.Int.{ints, to_z-of_z, to_z_pos}
 use Rattle.number.specs.declared.Pair.{Pair}
 use Rattle.number.specs.declared.Fault.{Fault}
-use Rattle.number.specs.declared.Fault.TheVariants.{NotHeld, ZeroDivisor}
-use Rattle.number.specs.Frac.{Frac, norm}
+use Rattle.number.specs.declared.Fault.TheVariants.{NotHeld}
+use Rattle.number.specs.Frac.{norm}
 use Rattle.number.specs.Kind.{held, taken, in_terms, of_one}
 use Rattle.number.proofs.Answered.{err_ok}
 use Rattle.number.proofs.Ints.{abs_times}

@@ -1,18 +1,17 @@
 -- The laws of the kind of thousandths.
-use Rattle.std.specs.Prelude.{◌≡◌, ℕ, zero, suc, ◌+◌, ◌*◌, ◌/◌, ◌%◌, ◌^◌, ◌<◌, ◌≤◌, Bool, true, false, cond, ◌&&◌, T, ◌⊎◌, List, [], ◌∷◌, ℤ, pos, negsuc, ◌+ℤ◌, ◌-ℤ◌, ◌*ℤ◌, neg_ℤ, Some, None, Option, ◌==◌, nat_le, unsigned_abs, refl}
-use Rattle.std.proofs.Common.{sym, ap, ap₂, subst, ◌∙◌, inl, inr, arith, leb→le, le→leb, eqb→eq}
+use Rattle.std.specs.Prelude.{◌≡◌, ℕ, ◌*◌, ◌/◌, ◌%◌, ◌≤◌, true, cond, ◌&&◌, T, [], ◌∷◌, ℤ, pos, negsuc, ◌*ℤ◌, Some, None, ◌==◌, nat_le, unsigned_abs, refl}
+use Rattle.std.proofs.Common.{sym, ap, ap₂, subst, ◌∙◌, arith, leb→le, le→leb, eqb→eq}
 use Rattle.std.specs.Int.{◌∣◌}
 use Rattle.std.proofs.Math.Nat as N
-use Rattle.std.proofs.Math.Dec.{T_prop, eqb_refl}
 use Rattle.number.specs.declared.Pair.{Pair}
 use Rattle.number.specs.Gcd.{gcd}
 use Rattle.number.specs.Divisors.{gcd_right}
-use Rattle.number.specs.Frac.{Frac, lowest, norm, whole}
+use Rattle.number.specs.Frac.{Frac, norm, whole}
 use Rattle.kinds.specs.Thousandths.{counts, thousand_of, count_from, counted, count_of}
 use Rattle.number.specs.Kind.{Holds}
 use Rattle.number.proofs.Ints.{int_ring, cancel, abs_times}
-use Rattle.number.proofs.Solve.{Exp, var, nil, unit, ◌⊕◌, ◌⊗◌, solve}
-use Rattle.number.proofs.Fracs.{As, as_self, as_norm, same, frac_cross, norm_cross, den_pos, whole_is}
+use Rattle.number.proofs.Solve.{var, ◌⊗◌, solve}
+use Rattle.number.proofs.Fracs.{as_self, as_norm, same, norm_cross, den_pos, whole_is}
 use Rattle.number.proofs.Tests.{two_t, is_true, chosen}
 
 -- 1000 is d times a number

@@ -1,8 +1,6 @@
 -- The laws of the kind of fractions.
-use Rattle.std.specs.Prelude.{◌≡◌, ℕ, zero, suc, ◌*◌, ◌<◌, ◌≤◌, Bool, true, false, cond, ◌&&◌, T, ℤ, pos, negsuc, ◌+ℤ◌, ◌*ℤ◌, Some, None, Option, nat_le, unsigned_abs, refl}
+use Rattle.std.specs.Prelude.{◌≡◌, ℕ, ◌≤◌, Bool, true, false, cond, ◌&&◌, T, ℤ, pos, negsuc, Some, None, nat_le, unsigned_abs, refl}
 use Rattle.std.proofs.Common.{sym, ap, ap₂, subst, ◌∙◌, arith, leb→le, le→leb}
-use Rattle.std.proofs.Math.Nat as N
-use Rattle.std.proofs.Math.Dec.{T_prop}
 use Rattle.number.specs.declared.Pair.{Pair}
 use Rattle.number.specs.Frac.{Frac, lowest, whole}
 use Rattle.kinds.specs.Fractions.{within, within_lowest, made, frac_of, pair_from, pair_of}

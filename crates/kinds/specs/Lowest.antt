@@ -1,18 +1,18 @@
 -- What the lowest terms within the limits, as the kind of fractions takes them, tell of another kind.
-use Rattle.std.specs.Prelude.{◌≡◌, ℕ, ◌<◌, ◌≤◌, Bool, true, false, cond, ◌&&◌, T, ℤ, pos, ◌≤ℤ◌, Some, None, Ok, Err, Option, Result, FitsSigned, int_le, nat_le, unsigned_abs, refl}
+use Rattle.std.specs.Prelude.{◌≡◌, ℕ, ◌≤◌, Bool, true, false, cond, T, ℤ, pos, ◌≤ℤ◌, Some, None, Ok, Err, Option, Result, FitsSigned, int_le, nat_le, unsigned_abs, refl}
 use Rattle.std.proofs.Common.{sym, ap, ap₂, subst, ◌∙◌, arith, leb→le, le→leb}
 use Rattle.std.specs.Int.{w64}
 use Rattle.std.proofs.lemmas.Int.{ints, to_z-of_z}
 use Rattle.number.specs.declared.Pair.{Pair}
 use Rattle.number.specs.declared.Fault.{Fault}
-use Rattle.number.specs.declared.Fault.TheVariants.{NotHeld, ZeroDivisor}
+use Rattle.number.specs.declared.Fault.TheVariants.{NotHeld}
 use Rattle.number.specs.Frac.{Frac, lowest, norm}
 use Rattle.number.specs.Kind.{Holds, held, taken, in_terms, of_one}
 use Rattle.kinds.specs.Fractions.{within, within_lowest, made, frac_of, pair_from, pair_of}
 use Rattle.number.proofs.Fracs.{den_pos}
 use Rattle.number.proofs.Answered.{held_ok, err_ok}
 use Rattle.number.proofs.Ops.{b64, small_fits}
-use Rattle.number.proofs.Tests.{two_t, join_t, none_some}
+use Rattle.number.proofs.Tests.{two_t, join_t}
 use Rattle.kinds.specs.Held.{pair_some, pair_from_code}
 use Rattle.kinds.specs.Reduced.{within_facts}
 

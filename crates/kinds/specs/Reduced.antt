@@ -1,17 +1,14 @@
 -- What the kind of fractions computes.
-use Rattle.std.specs.Prelude.{◌≡◌, ℕ, zero, suc, ◌+◌, ◌*◌, ◌/◌, ◌%◌, ◌^◌, ◌<◌, ◌≤◌, Bool, true, false, cond, ◌&&◌, T, ◌⊎◌, ℤ, pos, negsuc, ◌+ℤ◌, ◌*ℤ◌, neg_ℤ, ◌≤ℤ◌, ◌<ℤ◌, Some, None, Ok, Err, Option, Result, FitsSigned, ◌==◌, int_div, nat_eq, nat_le, unsigned_abs, refl}
-use Rattle.std.proofs.Common.{sym, ap, ap₂, subst, ◌∙◌, inl, inr, arith, leb→le, le→leb, of_z, to_z}
+use Rattle.std.specs.Prelude.{◌≡◌, ℕ, zero, suc, ◌*◌, ◌/◌, ◌%◌, ◌^◌, ◌<◌, ◌≤◌, Bool, true, false, cond, ◌&&◌, T, ◌⊎◌, ℤ, pos, negsuc, neg_ℤ, ◌≤ℤ◌, Some, None, Ok, Err, FitsSigned, ◌==◌, int_div, nat_eq, nat_le, unsigned_abs, refl}
+use Rattle.std.proofs.Common.{sym, ap, ap₂, subst, ◌∙◌, inl, inr, arith, leb→le, of_z, to_z}
 use Rattle.std.specs.Int.{◌∣◌, w64}
 use Rattle.std.proofs.Math.Nat as N
-use Rattle.std.proofs.Math.Dec.{T_prop}
 use Rattle.std.proofs.lemmas.Int.{ints, to_z-of_z, to_z_pos}
-use Rattle.number.specs.declared.Pair.{Pair}
-use Rattle.number.specs.declared.Fault.{Fault}
-use Rattle.number.specs.declared.Fault.TheVariants.{NotHeld, ZeroDivisor}
+use Rattle.number.specs.declared.Fault.TheVariants.{NotHeld}
 use Rattle.number.specs.Gcd.{gcd, steps}
 use Rattle.number.specs.Divisors.{gcd_left, gcd_right, gcd_greatest, gcd_pos}
-use Rattle.number.specs.Frac.{Frac, lowest, norm, whole}
-use Rattle.kinds.specs.Fractions.{within, made, frac_of, pair_from, pair_of}
+use Rattle.number.specs.Frac.{Frac, lowest, norm}
+use Rattle.kinds.specs.Fractions.{within, pair_from, pair_of}
 use Rattle.number.specs.Kind.{held}
 use Rattle.number.proofs.Tests.{two_t, leb_yes, leb_no}
 

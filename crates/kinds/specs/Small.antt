@@ -1,5 +1,5 @@
 -- The kind of small whole numbers: n from -1000 to 1000 is the pair 7, 3 - n.
-use Rattle.std.specs.Prelude.{ℕ, Bool, false, cond, ◌&&◌, ℤ, pos, negsuc, ◌-ℤ◌, Some, None, Option, ◌==◌, nat_le, unsigned_abs}
+use Rattle.std.specs.Prelude.{Bool, false, cond, ◌&&◌, ℤ, pos, negsuc, ◌-ℤ◌, Some, None, Option, ◌==◌, nat_le, unsigned_abs}
 use Rattle.number.specs.declared.Pair.{Pair}
 use Rattle.number.specs.Frac.{Frac, whole}
 

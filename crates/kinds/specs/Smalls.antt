@@ -1,17 +1,16 @@
 -- The laws of the kind of small whole numbers, and what its code computes.
-use Rattle.std.specs.Prelude.{◌≡◌, ℕ, ◌<◌, ◌≤◌, Bool, true, false, cond, ◌&&◌, T, ◌⊎◌, ℤ, pos, negsuc, ◌-ℤ◌, nat_abs, ◌≤ℤ◌, ◌<ℤ◌, Some, None, Ok, Err, Option, Result, FitsSigned, ◌==◌, ◌≢◌, nat_le, refl}
+use Rattle.std.specs.Prelude.{◌≡◌, ◌<◌, ◌≤◌, cond, ◌&&◌, T, ◌⊎◌, ℤ, pos, negsuc, ◌-ℤ◌, nat_abs, Some, None, Ok, Err, Option, Result, FitsSigned, ◌==◌, ◌≢◌, nat_le, refl}
 use Rattle.std.proofs.Common.{sym, ap, ap₂, subst, ◌∙◌, inl, inr, arith, leb→le, le→leb, eqb→eq}
-use Rattle.std.proofs.Math.Dec.{eqb_refl}
 use Rattle.std.specs.Int.{w64}
 use Rattle.std.proofs.lemmas.Int.{ints, to_z-of_z}
 use Rattle.number.specs.declared.Pair.{Pair}
 use Rattle.number.specs.declared.Fault.{Fault}
-use Rattle.number.specs.declared.Fault.TheVariants.{NotHeld, ZeroDivisor}
+use Rattle.number.specs.declared.Fault.TheVariants.{NotHeld}
 use Rattle.number.specs.Frac.{Frac, norm, whole}
 use Rattle.number.specs.Kind.{Holds, held, taken, in_terms, of_one}
 use Rattle.number.proofs.Fracs.{frac_same, whole_is}
 use Rattle.number.proofs.Ops.{b64}
-use Rattle.number.proofs.Tests.{two_t, join_t, is_true, is_false, chosen}
+use Rattle.number.proofs.Tests.{two_t, join_t, is_true, chosen}
 use Rattle.kinds.specs.Small.{marked, is_small, small_of, small_pair}
 use Rattle.kinds.specs.Lowest.{Lowest}
 

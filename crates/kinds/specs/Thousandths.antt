@@ -1,5 +1,5 @@
 -- The kind of thousandths: a pair is a count and 1, and means count / 1000.
-use Rattle.std.specs.Prelude.{ℕ, ◌*◌, ◌/◌, ◌%◌, Bool, true, false, cond, ◌&&◌, ℤ, pos, negsuc, ◌*ℤ◌, Some, None, Option, ◌==◌, nat_le, unsigned_abs}
+use Rattle.std.specs.Prelude.{ℕ, ◌*◌, ◌/◌, ◌%◌, Bool, false, cond, ◌&&◌, ℤ, pos, negsuc, ◌*ℤ◌, Some, None, Option, ◌==◌, nat_le, unsigned_abs}
 use Rattle.number.specs.declared.Pair.{Pair}
 use Rattle.number.specs.Frac.{Frac, norm}
 

@@ -1,5 +1,5 @@
 -- What is printed of a text. Assumes nothing.
-use Rattle.std.proofs.Common.{◌≡◌, ℕ, ◌+◌, ◌*◌, ◌<◌, ◌≤◌, Bool, true, false, cond, not, ◌&&◌, eqb, leb, List, [], ◌∷◌, ◌++◌, map, length, get_or, take, drop, IfOk, Some, None, Ok, Err, Option, Result, sym, refl, ap, ◌∙◌, subst, arith}
+use Rattle.std.proofs.Common.{◌≡◌, ℕ, ◌+◌, ◌*◌, ◌<◌, ◌≤◌, Bool, true, false, not, List, [], ◌∷◌, ◌++◌, map, length, get_or, take, drop, IfOk, Some, None, Ok, Err, Option, Result, sym, refl, ap, ◌∙◌, subst, arith}
 use Rattle.std.proofs.lemmas.List.{at_drop_more, append_assoc, length-take-le}
 use Rattle.std.proofs.lemmas.Bool.Decides.{nat_tests}
 use Rattle.std.specs.List.{AllByRecursion as All, flat_map}
@@ -7,15 +7,14 @@ use Rattle.script.specs.declared.words.LineWord.{LineWord}
 use Rattle.script.specs.declared.words.LineWord.TheVariants.{Var, Set, Run, Rate, If, Else, While, End}
 use Rattle.script.specs.declared.reading.Entry.{Entry}
 use Rattle.script.specs.declared.refusals.Refusal.{Refusal}
-use Rattle.script.specs.declared.refusals.Reason.{Reason}
 use Rattle.script.specs.declared.refusals.Reason.TheVariants.{TableTooShort}
 use Rattle.script.specs.Words.{line_word}
 use Rattle.script.specs.Tokens.{token_of}
 use Rattle.script.specs.Places.{bytes_at}
-use Rattle.script.specs.Lines.{Row, first, others, width, rows, fields_in, cells}
+use Rattle.script.specs.Lines.{Row, first, width, rows, fields_in, cells}
 use Rattle.script.specs.Checks.{count_suits, feeds}
 use Rattle.script.specs.Reading.{read_of}
-use Rattle.script.specs.Laws.{too_many_lines, Told, Accepted, Refused, text_too_long, no_line_feed, stray_byte, many_lines, bad_line, table_too_short, Whole, Right, Fault, bad_word, bad_count, bad_form, is_none, of_word, cell_of, Entered}
+use Rattle.script.specs.Laws.{too_many_lines, Told, Refused, text_too_long, no_line_feed, stray_byte, many_lines, bad_line, table_too_short, Right, Fault, bad_word, bad_count, bad_form, is_none, of_word, cell_of, Entered}
 use Rattle.script.proofs.Split.{row_count}
 use Rattle.script.proofs.Verdict.{told}
 use Rattle.listing.specs.Rows.{room, cell_line, entry_line, entry_lines, total_line, shown, printed, RoomEnough}

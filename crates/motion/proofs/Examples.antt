@@ -1,5 +1,5 @@
 -- The examples, by computation and by the theorems.
-use Rattle.std.proofs.Common.{◌≡◌, ℕ, ◌+◌, ◌≤◌, List, [], ◌∷◌, Some, sym, refl, ap, ◌∙◌, subst, ap₂, inl, arith}
+use Rattle.std.proofs.Common.{◌≡◌, ◌+◌, List, [], ◌∷◌, Some, sym, refl, ap, ◌∙◌, ap₂, inl, arith}
 use Rattle.number.specs.Gcd.{gcd, steps}
 use Rattle.number.specs.Lowest.{lowest}
 use Rattle.number.specs.Frac.{Frac, naught, norm, whole, add, neg, sub, mul, flip, inverse, div, scale, less, at_most}
@@ -9,17 +9,13 @@ use Rattle.kinds.specs.Held.{fractions_held}
 use Rattle.kinds.specs.Counting.{thousandths_held}
 use Rattle.number.specs.Frac as F
 use Rattle.motion.specs.Numbers.{exact, Divided, quot, by_zero, not_held, divide}
-use Rattle.motion.specs.Lines.{Line, Rate}
+use Rattle.motion.specs.Lines.{Rate}
 use Rattle.motion.specs.Derivatives.{D0, weighted, derive, Dk}
-use Rattle.motion.specs.Machine.{refused, advance, new}
-use Rattle.motion.specs.NextLine.{declared}
-use Rattle.motion.specs.Program.{Prog}
-use Rattle.motion.specs.Rules.{run, err, Steps, Curve, ProgramOf}
 use Rattle.motion.specs.Carriers.{nil, cons, both, Divides, quots, zeros, gone, Carries, Paired}
 use Rattle.motion.specs.Chains.{Shallow, starts}
 use Rattle.motion.specs.Marked.{A, B, C, D, w, thousands, bench}
 use Rattle.motion.specs.OneAdvance.{as_built}
-use Rattle.motion.specs.Examples.{Sample, Nested, Four, Half, begin, half_way, Examples}
+use Rattle.motion.specs.Examples.{Sample, Nested, Four, begin, half_way, Examples}
 use Rattle.motion.proofs.ReadOff.{sound}
 use Rattle.motion.proofs.Chains.{shallow_told}
 use Rattle.motion.proofs.Pairs.{pairs_carry}

@@ -1,5 +1,5 @@
 -- A bench that fits a script goes on fitting it.
-use Rattle.std.proofs.Common.{◌≡◌, ℕ, zero, suc, ◌+◌, ◌-◌, ◌<◌, ◌≤◌, Bool, true, false, cond, ◌&&◌, ◌||◌, eqb, ltb, leb, ◌⊎◌, List, [], ◌∷◌, length, drop, ℤ, pos, negsuc, nat_abs, Some, None, Option, sym, refl, ap, ◌∙◌, subst, inl, inr, arith, length-set, ltb-false, ltb-true, eq-eqb, eqb-true, le-leb, leb-true}
+use Rattle.std.proofs.Common.{◌≡◌, ℕ, zero, suc, ◌+◌, ◌-◌, ◌<◌, ◌≤◌, Bool, true, false, cond, ◌&&◌, ◌||◌, eqb, ltb, leb, ◌⊎◌, List, [], ◌∷◌, length, drop, pos, nat_abs, Some, None, Option, sym, refl, ap, ◌∙◌, subst, inl, inr, arith, length-set, ltb-false, ltb-true, eq-eqb, eqb-true, le-leb, leb-true}
 use borrow.Author.Tests.{clash}
 use Rattle.number.specs.declared.Pair.{Pair}
 use Rattle.number.specs.Frac.{Frac}
@@ -8,12 +8,12 @@ use Rattle.motion.specs.Numbers.{Numbers, exact}
 use Rattle.motion.specs.Lines.{Line, var_line, set_line, run_line, rate_line, if_line, else_line, while_line, end_line, Rate}
 use Rattle.motion.specs.Items.{Got, good, bad, number_of, truth_of}
 use Rattle.motion.specs.Flow.{flow}
-use Rattle.motion.specs.Machine.{Bench, Answer, accepted, refused, advance, advanced, Place, at, inside, ended, Stepped, go, stop, fail, cut, whole_run, lapse, stretch, assigned, timed, started, chosen, step, after, loop, place_at, place_of, ticks_of, whole_ticks, new}
+use Rattle.motion.specs.Machine.{Bench, Answer, accepted, refused, advance, advanced, Place, at, inside, ended, Stepped, go, stop, fail, cut, whole_run, lapse, stretch, assigned, timed, started, chosen, step, after, loop, place_at, place_of, whole_ticks, new}
 use Rattle.motion.specs.NextLine.{rates, line_at, first_line, next_from, declared}
-use Rattle.motion.specs.Carriers.{Each, nil, cons, Related}
+use Rattle.motion.specs.Carriers.{Each, nil, cons}
 use Rattle.motion.specs.Pairs.{numbers_of, Meant}
 use Rattle.motion.specs.Calls.{Call, advances, reads, asks_joint, writes, hands_over, bench_after, called, after_calls}
-use Rattle.motion.specs.Fitting.{answered, all_numbers, is_run, as_new, in_stretch, at_end, counts_small, fits, FittingIn, Fitting}
+use Rattle.motion.specs.Fitting.{answered, all_numbers, is_run, as_new, in_stretch, at_end, counts_small, fits, Fitting}
 use Rattle.motion.proofs.Lengths.{flow_length}
 use Rattle.number.proofs.Fracs.{whole_is}
 use Rattle.motion.proofs.OneStep.{ticks_some}

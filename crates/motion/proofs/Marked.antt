@@ -1,5 +1,5 @@
 -- The marked runs, by computation.
-use Rattle.std.proofs.Common.{◌≡◌, refl}
+use Rattle.std.proofs.Common.{refl}
 use Rattle.number.specs.Gcd.{gcd, steps}
 use Rattle.number.specs.Lowest.{lowest}
 use Rattle.number.specs.Frac.{naught, norm, whole, add, neg, sub, mul, flip, inverse, div, scale, less, at_most}

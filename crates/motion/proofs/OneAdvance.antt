@@ -1,5 +1,5 @@
 -- One advance of a bench that stands: the machine in unlimited fractions is found at the same standing, and goes on as the rules do.
-use Rattle.std.proofs.Common.{◌≡◌, ℕ, suc, ◌+◌, ◌<◌, ◌≤◌, Bool, true, false, ltb, List, [], length, drop, Option, sym, refl, ap, ◌∙◌, subst, ap₂, subst₂, inl, inr, zero-add, arith, ltb-false}
+use Rattle.std.proofs.Common.{◌≡◌, ℕ, suc, ◌+◌, ◌<◌, ◌≤◌, Bool, true, false, ltb, List, [], length, drop, Option, sym, refl, ap, ◌∙◌, subst, subst₂, inl, inr, zero-add, arith, ltb-false}
 use lib.Seq.{drop-length}
 use Rattle.number.specs.declared.Pair.{Pair}
 use Rattle.number.specs.Frac.{Frac}
@@ -17,7 +17,7 @@ use Rattle.motion.specs.Pairs.{numbers_of, Meant}
 use Rattle.motion.specs.Calls.{Call, after_calls, some_accepted, StandsAt, ComesTo}
 use Rattle.motion.specs.Promise.{Alike}
 use Rattle.motion.specs.OneAdvance.{Stands, as_built, on_curve, Resumes, starts, goes_on, waits, ShowsBench, Lawful, AdvanceLaw, AlwaysStands, SameWay, AlikeOnCurve}
-use Rattle.motion.proofs.Determinism.{resting, rest_once, shown_resting}
+use Rattle.motion.proofs.Determinism.{resting, rest_once}
 use Rattle.motion.proofs.ReadOff.{one_program}
 use Rattle.motion.proofs.Advance.{Overs, advance_over, first_number}
 use Rattle.motion.proofs.Agreement.{failed_told, follows_rules}

@@ -1,12 +1,12 @@
 -- Two pieces and the whole: the same bench, and the steps.
-use Rattle.std.proofs.Common.{◌≡◌, ℕ, zero, suc, ◌+◌, ◌<◌, ◌≤◌, Bool, true, false, cond, ltb, List, length, sym, refl, ap, ◌∙◌, subst, zero-add, arith, ltb-false, ltb-true}
+use Rattle.std.proofs.Common.{◌≡◌, ℕ, suc, ◌+◌, ◌<◌, ◌≤◌, Bool, true, false, cond, ltb, List, length, sym, refl, ap, ◌∙◌, subst, zero-add, arith, ltb-false, ltb-true}
 use Rattle.number.specs.Frac.{Frac}
 use Rattle.motion.specs.Numbers.{Numbers, exact}
 use Rattle.motion.specs.Lines.{Line}
 use Rattle.motion.specs.Program.{Prog}
-use Rattle.motion.specs.Machine.{Bench, Answer, accepted, refused, advance, advanced, Place, at, inside, ended, Stepped, go, stop, fail, stretch, step, after, loop, place_at, place_of, new}
-use Rattle.motion.specs.NextLine.{line_at, declared}
-use Rattle.motion.specs.Rules.{Env, Config, run, Steps, done, more, Shows, ProgramOf}
+use Rattle.motion.specs.Machine.{Bench, accepted, advance, place_of, new}
+use Rattle.motion.specs.NextLine.{declared}
+use Rattle.motion.specs.Rules.{Config, run, Steps, done, more, Shows, ProgramOf}
 use Rattle.motion.specs.Remaining.{Left}
 use Rattle.motion.specs.Agreement.{standing, GoesOn, from_stop, from_end}
 use Rattle.motion.specs.Cuts.{Smooth}

@@ -6,7 +6,7 @@ use Rattle.motion.specs.Items.{Got, good, bad, number_of, truth_of}
 use Rattle.motion.specs.Flow.{flow}
 use Rattle.motion.specs.NextLine.{line_at, rates}
 use Rattle.motion.specs.Remaining.{Statement}
-use Rattle.motion.specs.Machine.{Place, at, inside, ended, Bench, Answer, accepted, refused, Stepped, go, stop, fail, cut, whole_run, lapse, assigned, timed, started, chosen, whole_ticks, step, stretch, after, over_at_end, loop, advanced, advance, place_at, place_of}
+use Rattle.motion.specs.Machine.{Place, at, inside, ended, Bench, Answer, refused, Stepped, go, stop, fail, cut, whole_run, lapse, assigned, timed, started, chosen, whole_ticks, step, stretch, after, over_at_end, loop, advanced, advance, place_at, place_of}
 use Rattle.motion.specs.Refusals.{OnLine, at_statement, in_stretch, Comes, statement, stretched, Goes, none, more, Answers, too_much, too_few, fails, ends, stops, StretchAt, going_on, starting, FailsBy, in_set, in_run, in_if, in_while, no_duration, at_its_end, at_the_cut, no_statement, RefusalsTold}
 
 module _ {V : Type 0} (N : Numbers V) (all : List Line) where

@@ -5,7 +5,7 @@ use Rattle.motion.specs.Lines.{Line}
 use Rattle.motion.specs.Machine as M
 use Rattle.motion.specs.NextLine.{line_at, declared}
 use Rattle.motion.specs.Machine.{at, inside, place_at, place_of, Bench, Answer, accepted, refused, Stepped, go, fail, step, stretch, advance, new}
-use Rattle.motion.specs.Program.{Prog, skip, rest, Spells}
+use Rattle.motion.specs.Program.{Prog, skip, Spells}
 use Rattle.motion.specs.Rules.{Env, Config, run, stop, err, ◌⟶◌, Steps, Heads, Shows, Standing, Resting, ProgramOf, Curve}
 use Rattle.motion.specs.Numbers.{exact}
 use Rattle.motion.specs.Machine as M

@@ -1,10 +1,9 @@
 -- When a run in one sort of numbers follows a run in another.
-use Rattle.std.specs.Prelude.{◌≡◌, ℕ, ◌≤◌, Bool, List, [], ◌∷◌, length, Some, None, Option}
+use Rattle.std.specs.Prelude.{◌≡◌, ℕ, ◌≤◌, Bool, List, [], ◌∷◌, Some, None, Option}
 use Rattle.number.specs.Frac.{Frac}
 use Rattle.motion.specs.Numbers.{Numbers, Divided, quot, by_zero, not_held}
 use Rattle.motion.specs.Machine.{Bench, accepted, refused, advance}
 use Rattle.motion.specs.Lines.{Line}
-use Rattle.motion.specs.Rules.{run}
 
 -- Where the second answers, the first answers something related.
 pub data Follows {A B : Type 0} (S : A → B → Type 0) : Option A → Option B → Type 0 where

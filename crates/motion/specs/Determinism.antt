@@ -2,7 +2,6 @@
 use Rattle.std.specs.Prelude.{◌≡◌, ℕ, List}
 use Rattle.motion.specs.Lines.{Line}
 use Rattle.motion.specs.Rules.{Config, Resting, ◌⟶◌, Steps, Standing, Shows, Curve}
-use Rattle.motion.specs.Program.{rest}
 
 -- A configuration steps to at most one other.
 abbrev pub Deterministic : Type 0

@@ -6,7 +6,7 @@ use Rattle.number.specs.Kind.{Holds}
 use Rattle.kinds.specs.Fractions.{frac_of, pair_of}
 use Rattle.kinds.specs.Thousandths.{thousand_of, count_of}
 use Rattle.motion.specs.Numbers.{exact}
-use Rattle.motion.specs.Lines.{Line, set_line, run_line, if_line, else_line, while_line, end_line, name, calculate, add, sub, div, lt, le, Rate, one, var}
+use Rattle.motion.specs.Lines.{Line, set_line, run_line, if_line, else_line, while_line, end_line, name, calculate, add, sub, div, lt, le, one, var}
 use Rattle.motion.specs.Flow.{flow}
 use Rattle.motion.specs.Derivatives.{D}
 use Rattle.motion.specs.Stretches.{five, zeros, w as v}

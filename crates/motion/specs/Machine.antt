@@ -1,5 +1,5 @@
 -- One advance over the lines, over any numbers.
-use Rattle.std.specs.Prelude.{ℕ, zero, suc, ◌+◌, ◌-◌, Bool, true, false, cond, List, length, drop, set, ℤ, pos, negsuc, Some, None, Option, ◌==◌, nat_lt, slice_set}
+use Rattle.std.specs.Prelude.{ℕ, zero, suc, ◌+◌, ◌-◌, Bool, true, false, cond, List, length, drop, ℤ, pos, negsuc, Some, None, Option, ◌==◌, nat_lt, slice_set}
 use Rattle.motion.specs.Numbers.{Numbers}
 use Rattle.number.specs.Frac.{Frac}
 use Rattle.motion.specs.Lines.{Line, var_line, set_line, run_line, rate_line, if_line, else_line, while_line, end_line, Rate}

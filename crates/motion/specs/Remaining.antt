@@ -1,7 +1,6 @@
 -- What is left to be done at a place of the line machine.
 use Rattle.std.specs.Prelude.{◌≡◌, ℕ, suc, ◌+◌, List, [], ◌∷◌, ◌++◌, map, length, drop}
 use Rattle.motion.specs.Lines.{Line, var_line, set_line, if_line, run_line, rate_line, else_line, while_line, end_line, Rate, Item}
-use Rattle.motion.specs.Machine as M
 use Rattle.motion.specs.NextLine.{Open, in_while, in_if, opens, line_at}
 use Rattle.motion.specs.Machine.{Place, at, inside, ended}
 use Rattle.motion.specs.Program.{Prog, skip, rest, repeat, seq, ◌⨟◌, Spells}

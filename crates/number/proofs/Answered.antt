@@ -1,9 +1,9 @@
 -- What the answers of a kind say of fractions.
-use Rattle.std.proofs.Common.{◌≡◌, ℕ, zero, suc, ◌≤◌, Bool, true, false, cond, ◌&&◌, eqb, leb, Some, None, Ok, Err, Option, Result, sym, refl, ap, ◌∙◌, subst, ap₂, arith}
+use Rattle.std.proofs.Common.{◌≡◌, ℕ, Bool, true, false, cond, ◌&&◌, leb, Some, None, Ok, Err, Option, Result, sym, refl, ap, ◌∙◌, ap₂, arith}
 use Rattle.number.specs.declared.Pair.{Pair}
 use Rattle.number.specs.declared.Fault.{Fault}
-use Rattle.number.specs.declared.Fault.TheVariants.{NotHeld, ZeroDivisor}
-use Rattle.number.specs.Frac.{Frac, norm, whole, add, sub, mul, div, scale, horner}
+use Rattle.number.specs.declared.Fault.TheVariants.{NotHeld}
+use Rattle.number.specs.Frac.{Frac, add, scale, horner}
 use Rattle.number.specs.Kind.{Holds, held, of_one, of_two, exact2, scaled, stepped, worked, then}
 
 pub err_ok : {A : Type 0} (e : Fault) (a : A) → ◌≡◌ {A = Result A Fault} (Err e) (Ok a) → ⊥

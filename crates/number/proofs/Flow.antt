@@ -1,8 +1,7 @@
 -- To go n steps and then m is to go n + m.
-use Rattle.std.proofs.Common.{◌≡◌, ℕ, zero, suc, ◌+◌, ◌*◌, ◌/◌, ◌<◌, ◌≤◌, List, [], ◌∷◌, ℤ, pos, negsuc, ◌+ℤ◌, ◌*ℤ◌, neg_ℤ, sym, refl, ap, ◌∙◌, subst, ap₂, arith}
-use Rattle.number.specs.Ring.{Ring}
+use Rattle.std.proofs.Common.{◌≡◌, ℕ, ◌+◌, ◌*◌, ◌≤◌, List, [], ◌∷◌, pos, sym, refl, ap, ◌∙◌, ap₂, arith}
 use Rattle.number.specs.Gcd.{gcd, steps}
-use Rattle.number.specs.Frac.{Frac, lowest, norm, add, mul, neg, naught, whole, scale, horner}
+use Rattle.number.specs.Frac.{Frac, lowest, norm, add, mul, naught, whole, scale, horner}
 use Rattle.number.proofs.Solve.{Exp, var, nil, unit, ◌⊕◌, ◌⊗◌, solve, value, normal}
 use Rattle.number.proofs.Laws.{frac_ring, part, whole_add, whole_mul}
 

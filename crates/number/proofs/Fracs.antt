@@ -1,18 +1,15 @@
 -- The laws of fractions.
-use Rattle.std.proofs.Common.{◌≡◌, ℕ, zero, suc, ◌+◌, ◌*◌, ◌/◌, ◌<◌, ◌≤◌, Bool, true, false, cond, ◌&&◌, T, eqb, leb, List, [], ◌∷◌, ℤ, pos, negsuc, ◌+ℤ◌, ◌*ℤ◌, neg_ℤ, nat_abs, sym, refl, ap, ◌∙◌, subst, ap₂, arith, eqb→eq, leb→le}
-use mathlib.Core.Path.{PathP}
+use Rattle.std.proofs.Common.{◌≡◌, ℕ, zero, suc, ◌*◌, ◌/◌, ◌<◌, Bool, true, false, ◌&&◌, T, eqb, leb, [], ◌∷◌, ℤ, pos, negsuc, ◌+ℤ◌, ◌*ℤ◌, neg_ℤ, nat_abs, sym, refl, ap, ◌∙◌, ap₂, arith, eqb→eq, leb→le}
 use mathlib.Core.HLevel.{is_prop→PathP}
 use native.Mathlib.Nat as N
 use lib.Dec.{T_prop}
 use lib.Signed.{quot_z}
-use borrow.Author.Differences.{up, down, ints, same_in, same_out, product_is, sum_is_lem, quot_is}
-use Rattle.number.specs.Ring.{Ring}
-use Rattle.number.specs.Gcd.{gcd, steps}
-use Rattle.number.specs.Divisors.{gcd_pos, gcd_left, gcd_right, unique_den}
+use Rattle.number.specs.Gcd.{gcd}
+use Rattle.number.specs.Divisors.{gcd_left, gcd_right, unique_den}
 use Rattle.number.specs.Lowest.{lowest_from}
-use Rattle.number.specs.Frac.{Frac, lowest, norm, add, mul, neg, naught, whole, scale}
+use Rattle.number.specs.Frac.{Frac, lowest, norm, add, mul, whole}
 use Rattle.number.proofs.Ints.{int_ring, cancel, abs_times}
-use Rattle.number.proofs.Solve.{Exp, var, nil, unit, ◌⊕◌, ◌⊗◌, solve}
+use Rattle.number.proofs.Solve.{var, ◌⊕◌, ◌⊗◌, solve}
 
 -- equal numerators and denominators make equal fractions
 pub frac_same : (p q : Frac) → p.num ≡ q.num → p.den ≡ q.den → p ≡ q

@@ -1,5 +1,5 @@
 -- The integers as a ring.
-use Rattle.std.proofs.Common.{◌≡◌, ℕ, zero, suc, ◌+◌, ◌*◌, ◌<◌, ℤ, pos, negsuc, ◌+ℤ◌, ◌*ℤ◌, neg_ℤ, nat_abs, sym, refl, ap, ◌∙◌, arith}
+use Rattle.std.proofs.Common.{◌≡◌, ℕ, zero, suc, ◌+◌, ◌*◌, ◌<◌, ℤ, pos, negsuc, ◌+ℤ◌, ◌*ℤ◌, neg_ℤ, nat_abs, refl, ap, ◌∙◌, arith}
 use native.Mathlib.Nat as N
 use lib.IntN.{+ℤ_idl, +ℤ_comm, +ℤ_assoc, zero-*ℤ, *ℤ_comm}
 use borrow.Author.Differences.{up, down, ints, same_in, same_out, product_is, sum_is_lem, neg_is}

@@ -1,12 +1,11 @@
 -- Fractions are a commutative ring.
-use Rattle.std.proofs.Common.{◌≡◌, ℕ, zero, suc, ◌+◌, ◌*◌, ◌/◌, ◌<◌, ◌≤◌, List, [], ◌∷◌, ℤ, pos, negsuc, ◌+ℤ◌, ◌*ℤ◌, neg_ℤ, sym, refl, ap, ◌∙◌, subst, ap₂, arith}
-use native.Mathlib.Nat as N
+use Rattle.std.proofs.Common.{◌≡◌, ℕ, ◌+◌, ◌*◌, ◌<◌, [], ◌∷◌, ℤ, pos, ◌*ℤ◌, neg_ℤ, refl, ap, ◌∙◌, arith}
 use lib.IntN.{+ℤ_invr}
 use Rattle.number.specs.Ring.{Ring}
 use Rattle.number.specs.Gcd.{gcd, steps}
 use Rattle.number.specs.Frac.{Frac, lowest, norm, add, mul, neg, naught, whole, scale}
 use Rattle.number.proofs.Ints.{int_ring}
-use Rattle.number.proofs.Solve.{Exp, var, nil, unit, ◌⊕◌, ◌⊗◌, solve}
+use Rattle.number.proofs.Solve.{var, nil, unit, ◌⊕◌, ◌⊗◌, solve}
 use Rattle.number.proofs.Fracs.{As, as_norm, as_self, same, as_add, as_mul, den_pos}
 
 as_naught : As naught (pos 0) 1

@@ -1,5 +1,5 @@
 -- What the operations of a kind compute on lowest terms is what their contracts say, for any kind.
-use Rattle.std.proofs.Common.{◌≡◌, ℕ, zero, suc, ◌+◌, ◌*◌, ◌<◌, ◌≤◌, Bool, true, false, cond, ◌&&◌, T, eqb, leb, ◌⊎◌, ℤ, pos, negsuc, ◌+ℤ◌, ◌-ℤ◌, ◌*ℤ◌, neg_ℤ, nat_abs, ◌≤ℤ◌, ◌<ℤ◌, Some, None, Ok, Err, Option, Result, sym, refl, ap, ◌∙◌, subst, ap₂, inl, inr, arith, le→leb, leb→le, w64, SFits, to_z, of_z}
+use Rattle.std.proofs.Common.{◌≡◌, ℕ, zero, suc, ◌*◌, ◌<◌, ◌≤◌, Bool, true, false, cond, ◌&&◌, T, eqb, leb, ◌⊎◌, ℤ, pos, negsuc, ◌+ℤ◌, ◌-ℤ◌, ◌*ℤ◌, neg_ℤ, nat_abs, ◌≤ℤ◌, ◌<ℤ◌, Some, None, Ok, Err, Option, Result, sym, refl, ap, ◌∙◌, subst, ap₂, inl, inr, arith, w64, SFits, to_z, of_z}
 use native.Mathlib.Nat as N
 use lib.Dec.{eqb-suc-zero}
 use lib.Signed.{lt_z, le_z}
@@ -9,7 +9,7 @@ use Rattle.number.specs.declared.Fault.{Fault}
 use Rattle.number.specs.declared.Fault.TheVariants.{NotHeld, ZeroDivisor}
 use Rattle.number.specs.Frac.{Frac, norm, add, sub, neg, mul, div, flip, inverse, scale, less, at_most}
 use Rattle.number.specs.Kind.{Holds, held, taken, of_one, of_two, exact2, divided, scaled, in_terms, asked2, is_naught}
-use Rattle.number.proofs.Fracs.{As, as_norm, as_self, as_add, as_mul, den_pos}
+use Rattle.number.proofs.Fracs.{as_norm, as_self, as_add, as_mul, den_pos}
 use Rattle.number.proofs.Ints.{neg_out, neg_right, abs_of_neg}
 use Rattle.number.proofs.Products.{abs_product, long_fits}
 use Rattle.number.proofs.Tests.{leb_yes, leb_no, le_z_yes}

@@ -1,14 +1,13 @@
 -- The order of fractions, and division.
-use Rattle.std.proofs.Common.{◌≡◌, ℕ, zero, suc, ◌*◌, ◌<◌, Bool, true, false, not, [], ◌∷◌, ℤ, pos, negsuc, ◌-ℤ◌, ◌*ℤ◌, neg_ℤ, nat_abs, ◌≤ℤ◌, ◌<ℤ◌, sym, refl, ap, ◌∙◌, subst, ap₂, arith}
+use Rattle.std.proofs.Common.{◌≡◌, ℕ, zero, suc, ◌*◌, ◌<◌, Bool, true, false, not, [], ◌∷◌, ℤ, pos, negsuc, ◌-ℤ◌, ◌*ℤ◌, neg_ℤ, nat_abs, ◌≤ℤ◌, ◌<ℤ◌, sym, refl, ap, ◌∙◌, ap₂, arith}
 use native.Mathlib.Nat as N
 use lib.Signed.{lt_z, le_z}
 use borrow.Author.Differences.{lt-true, lt-false, le-true, le-false}
 use Rattle.std.proofs.lemmas.Int.{ints}
-use Rattle.number.specs.Gcd.{gcd, steps}
-use Rattle.number.specs.Frac.{Frac, norm, add, sub, mul, div, inverse, flip, whole, less, at_most}
+use Rattle.number.specs.Frac.{Frac, norm, sub, mul, div, inverse, flip, whole, less, at_most}
 use Rattle.number.proofs.Ints.{int_ring, neg_out, neg_right}
-use Rattle.number.proofs.Solve.{Exp, var, nil, unit, ◌⊕◌, ◌⊗◌, solve}
-use Rattle.number.proofs.Fracs.{As, as_norm, as_self, as_mul, same, frac_cross, norm_cross, den_pos, norm_eq}
+use Rattle.number.proofs.Solve.{var, nil, unit, ◌⊗◌, solve}
+use Rattle.number.proofs.Fracs.{as_norm, as_self, as_mul, same, frac_cross, norm_cross, den_pos}
 use Rattle.number.proofs.Laws.{frac_ring}
 use Rattle.number.proofs.Ops.{flip_pos, flip_neg, sub_is}
 

@@ -1,5 +1,5 @@
 -- Products of two numbers of 32 bits fit 64 bits.
-use Rattle.std.proofs.Common.{◌≡◌, ℕ, zero, suc, ◌*◌, ◌<◌, ◌≤◌, ℤ, pos, negsuc, ◌*ℤ◌, neg_ℤ, nat_abs, sym, refl, ap, ◌∙◌, subst, ap₂, arith, w64, SFits, to_z, of_z}
+use Rattle.std.proofs.Common.{◌≡◌, ℕ, zero, suc, ◌*◌, ◌≤◌, ℤ, pos, negsuc, ◌*ℤ◌, neg_ℤ, nat_abs, refl, ◌∙◌, ap₂, arith, w64, SFits, to_z, of_z}
 use native.Mathlib.Nat as N
 use Rattle.std.proofs.lemmas.Int.{ints, to_z-of_z}
 

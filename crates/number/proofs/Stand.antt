@@ -1,6 +1,5 @@
 -- The theorems of fractions and of the answers of a kind, together.
-use Rattle.std.proofs.Common.{◌≡◌, ℕ, zero, suc, ◌+◌, ◌<◌, ◌≤◌, Bool, true, false, cond, not, eqb, [], ◌∷◌, ℤ, pos, negsuc, ◌*ℤ◌, nat_abs, Some, None, Ok, Err, Option, Result, sym, refl, ap, ◌∙◌, subst, ap₂, arith}
-use lib.Dec.{eqb-suc-zero}
+use Rattle.std.proofs.Common.{◌≡◌, ℕ, ◌+◌, ◌<◌, ◌≤◌, Bool, true, false, cond, not, eqb, [], ◌∷◌, ℤ, pos, ◌*ℤ◌, nat_abs, Some, None, Ok, Err, Option, Result, sym, refl, ap, ◌∙◌, ap₂, arith}
 use Rattle.number.specs.declared.Pair.{Pair}
 use Rattle.number.specs.declared.Fault.{Fault}
 use Rattle.number.specs.declared.Fault.TheVariants.{NotHeld, ZeroDivisor}
@@ -9,13 +8,12 @@ use Rattle.number.specs.Frac.{Frac, lowest, norm, add, neg, sub, mul, inverse, f
 use Rattle.number.specs.Kind.{Holds, held, of_two, exact2, divided, asked2, is_naught}
 use Rattle.number.specs.Theorems.{Equality, CommutativeRing, Scaling, Division, Order, Flow, Polynomial, Examples, Answers}
 use Rattle.number.proofs.Ints.{int_ring, cancel}
-use Rattle.number.proofs.Solve.{Exp, var, nil, unit, ◌⊕◌, ◌⊗◌, solve}
-use Rattle.number.proofs.Fracs.{As, as_self, as_norm, as_add, same, frac_same, norm_eq, norm_cross, den_pos, coprime}
+use Rattle.number.proofs.Solve.{var, nil, ◌⊕◌, ◌⊗◌, solve}
+use Rattle.number.proofs.Fracs.{as_self, as_norm, as_add, same, frac_same, norm_eq, norm_cross, den_pos, coprime}
 use Rattle.number.proofs.Laws.{frac_ring, add_neg, scale_add, scale_mul}
 use Rattle.number.proofs.Order.{less_irrefl, less_trans, less_total, at_most_not, less_difference, at_most_difference, div_mul, mul_div}
 use Rattle.number.proofs.Flow.{flow, polynomial}
 use Rattle.number.proofs.Answered.{err_ok, held_ok}
-use Rattle.number.proofs.Tests.{none_some}
 
 cross : (a : ℤ) (b : ℕ) (c : ℤ) (d : ℕ) → 0 < b → 0 < d → norm a b ≡ norm c d → a *ℤ pos d ≡ c *ℤ pos b
 cross a b c d hb hd e =

@@ -1,5 +1,5 @@
 -- Tests that are known to hold, or not to.
-use Rattle.std.proofs.Common.{◌≡◌, ℕ, ◌<◌, ◌≤◌, Bool, true, false, cond, ◌&&◌, T, eqb, leb, ℤ, ◌≤ℤ◌, Some, None, Option, sym, refl, subst, arith, le→leb, leb→le}
+use Rattle.std.proofs.Common.{◌≡◌, ℕ, ◌<◌, ◌≤◌, Bool, true, false, cond, ◌&&◌, T, leb, ℤ, ◌≤ℤ◌, Some, None, Option, sym, refl, subst, arith, le→leb, leb→le}
 use lib.Signed.{le_z}
 use Rattle.std.proofs.lemmas.Int.{ints}
 

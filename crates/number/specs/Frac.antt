@@ -1,5 +1,5 @@
 -- Exact fractions without limit, each with one value.
-use Rattle.std.specs.Prelude.{◌≡◌, ℕ, zero, suc, ◌*◌, ◌/◌, Bool, ◌&&◌, T, ℤ, pos, negsuc, ◌+ℤ◌, ◌*ℤ◌, neg_ℤ, int_div, int_le, int_lt, unsigned_abs}
+use Rattle.std.specs.Prelude.{ℕ, zero, suc, ◌*◌, ◌/◌, Bool, T, ℤ, pos, negsuc, ◌+ℤ◌, ◌*ℤ◌, neg_ℤ, int_div, int_le, int_lt, unsigned_abs}
 use Rattle.std.proofs.Common.{arith}
 use Rattle.number.specs.Gcd.{gcd, steps}
 use Rattle.number.specs.Lowest.{reduced_low}

@@ -1,5 +1,5 @@
 -- What holds of fractions, and of the answers of any kind of number.
-use Rattle.std.specs.Prelude.{◌≡◌, ℕ, ◌+◌, ◌*◌, ◌<◌, ◌≤◌, Bool, true, false, not, ℤ, pos, negsuc, ◌*ℤ◌, Some, None, Ok, Err, Option, Result, int_le, int_lt, unsigned_abs}
+use Rattle.std.specs.Prelude.{◌≡◌, ℕ, ◌+◌, ◌*◌, ◌<◌, ◌≤◌, Bool, true, false, not, ℤ, pos, negsuc, ◌*ℤ◌, Some, Ok, Option, int_le, int_lt, unsigned_abs}
 use Rattle.number.specs.declared.Pair.{Pair}
 use Rattle.number.specs.Gcd.{gcd}
 use Rattle.number.specs.Frac.{Frac, norm, add, neg, sub, mul, div, naught, whole, scale, less, at_most, horner}

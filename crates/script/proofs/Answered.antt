@@ -1,5 +1,5 @@
 -- What follows of a reading from its answer. Assumes nothing.
-use Rattle.std.proofs.Common.{◌≡◌, ℕ, false, List, [], ◌∷◌, ◌++◌, map, length, take, drop, IfOk, Ok, Err, Result, sym, refl, ap, ◌∙◌, subst, MatchResult}
+use Rattle.std.proofs.Common.{◌≡◌, ℕ, false, List, [], ◌∷◌, map, length, take, drop, IfOk, Ok, Err, Result, sym, refl, ap, ◌∙◌, subst, MatchResult}
 use Rattle.std.proofs.lemmas.List.{length-map, take_at}
 use Rattle.std.specs.List.{AllByRecursion as All}
 use Rattle.script.specs.declared.places.Place.{Place}
@@ -8,7 +8,7 @@ use Rattle.script.specs.declared.reading.Draft.{Draft}
 use Rattle.script.specs.declared.refusals.Refusal.{Refusal}
 use Rattle.script.specs.Tokens.{token_of}
 use Rattle.script.specs.Places.{places, bytes_at}
-use Rattle.script.specs.Lines.{rows, fields_in, cells, written}
+use Rattle.script.specs.Lines.{rows, fields_in, written}
 use Rattle.script.specs.Checks.{unended}
 use Rattle.script.specs.Scan.{cell_at}
 use Rattle.script.specs.Reading.{read_of, scan_of, summary, table_after, entry_of, entries, filled}

@@ -1,5 +1,5 @@
 -- A line is in order, or its first fault is told. Assumes nothing.
-use Rattle.std.proofs.Common.{◌≡◌, ℕ, ◌+◌, Bool, true, false, cond, not, ◌&&◌, List, [], ◌∷◌, ◌++◌, length, Some, None, Ok, Err, Option, Result, sym, refl, ap, ◌∙◌, arith}
+use Rattle.std.proofs.Common.{◌≡◌, ℕ, ◌+◌, Bool, true, false, not, ◌&&◌, List, [], ◌∷◌, ◌++◌, length, Some, None, Ok, Err, Option, sym, refl, ap, ◌∙◌, arith}
 use Rattle.std.specs.List.{AllByRecursion as All}
 use Rattle.script.specs.declared.words.LineWord.{LineWord}
 use Rattle.script.specs.declared.refusals.Refusal.{Refusal}
@@ -8,8 +8,8 @@ use Rattle.script.specs.Words.{line_word}
 use Rattle.script.specs.Tokens.{token_of}
 use Rattle.script.specs.Lines.{Row, first, others, width}
 use Rattle.script.specs.Refusals.{refused}
-use Rattle.script.specs.Checks.{and_then, count_suits, form_at, has_form, misfit, by_misfit, by_word, row_check, rows_check}
-use Rattle.script.specs.Laws.{is_none, of_word, no_line_word, wrong_count, forms_fit, wrong_form, Right, Fault, bad_word, bad_count, bad_form}
+use Rattle.script.specs.Checks.{and_then, count_suits, form_at, has_form, misfit, by_word, row_check, rows_check}
+use Rattle.script.specs.Laws.{is_none, of_word, no_line_word, wrong_count, forms_fit, Right, Fault, bad_word, bad_count, bad_form}
 
 both : (a b : Bool) → (a && b) ≡ true → (a ≡ true) × (b ≡ true)
 both true b h = (refl, h)

@@ -3,8 +3,8 @@ use Rattle.std.proofs.Common.{◌≡◌, ℕ, suc, ◌+◌, ◌-◌, ◌<◌, �
 use Rattle.std.proofs.lemmas.List.{append-nil, append_assoc, drop-drop, take_more, drop_more, length-drop}
 use Rattle.std.proofs.lemmas.Bool.Decides.{nat_tests}
 use Rattle.script.specs.declared.places.Place.{Place}
-use Rattle.script.specs.Places.{place, walk, places, part, bytes_at}
-use Rattle.script.specs.Lines.{Row, row, fields, lengthen, part_off, onto, lines, rows, width, fields_in, behind_commas, line_text, written, Cell, cell, cells_from, row_cells, cells}
+use Rattle.script.specs.Places.{place, walk, places, part}
+use Rattle.script.specs.Lines.{Row, row, fields, lengthen, part_off, onto, lines, rows, width, fields_in, line_text, written, Cell, cell, cells_from, row_cells, cells}
 use Rattle.script.specs.Checks.{feeds, unended}
 use Rattle.script.specs.Scan.{cell_at}
 use Rattle.script.proofs.Turns.{bytes_within}

@@ -1,5 +1,5 @@
 -- The first byte that is not allowed. Assumes nothing.
-use Rattle.std.proofs.Common.{◌≡◌, ℕ, ◌+◌, Bool, true, false, cond, ◌&&◌, eqb, List, [], ◌∷◌, ◌++◌, Some, None, Option, sym, refl, ap, ◌∙◌, arith}
+use Rattle.std.proofs.Common.{◌≡◌, ℕ, ◌+◌, Bool, true, false, cond, ◌&&◌, eqb, List, [], ◌∷◌, ◌++◌, Some, None, Option, refl, ap, ◌∙◌, arith}
 use Rattle.script.specs.declared.checks.Spot.{Spot}
 use Rattle.script.specs.Checks.{feeds, allowed, stray, spot}
 use Rattle.script.specs.Laws.{all_allowed, commas_after}

@@ -1,15 +1,13 @@
 -- The answer is what the rules of acceptance and refusal say. Assumes nothing.
-use Rattle.std.proofs.Common.{◌≡◌, ℕ, ◌+◌, ◌<◌, ◌≤◌, Bool, true, false, cond, ltb, List, [], ◌∷◌, ◌++◌, map, length, Some, None, Ok, Err, Option, Result, sym, refl, ap, ◌∙◌, subst, arith}
+use Rattle.std.proofs.Common.{◌≡◌, ℕ, ◌+◌, Bool, true, false, cond, ltb, List, length, Some, None, Ok, Err, Result, sym, refl, ap, ◌∙◌, subst, arith}
 use Rattle.std.specs.List.{AllByRecursion as All}
 use Rattle.std.proofs.lemmas.Bool.Decides.{nat_tests}
-use Rattle.script.specs.declared.checks.Spot.{Spot}
 use Rattle.script.specs.declared.refusals.Refusal.{Refusal}
-use Rattle.script.specs.declared.refusals.Reason.TheVariants.{TextTooLong, NoLineFeedAtEnd, StrayByte, TooManyLines, TableTooShort}
-use Rattle.script.specs.Places.{places}
+use Rattle.script.specs.declared.refusals.Reason.TheVariants.{TextTooLong, NoLineFeedAtEnd, TooManyLines}
 use Rattle.script.specs.Lines.{rows, fields_in}
 use Rattle.script.specs.Refusals.{refused}
 use Rattle.script.specs.Checks.{feeds, unended, stray, spot, by_stray, text_check, and_then, rows_check}
-use Rattle.script.specs.Scan.{cell_at, scan, line_check}
+use Rattle.script.specs.Scan.{scan, line_check}
 use Rattle.script.specs.Reading.{table_check, read_of, scan_of}
 use Rattle.script.specs.Laws.{too_long, too_many_lines, all_allowed, commas_after, Whole, Right, Fault, Refused, text_too_long, no_line_feed, stray_byte, many_lines, bad_line, table_too_short, Accepted, Told, Alone}
 use Rattle.script.proofs.Faults.{all_right_is, fault_in, GoneThrough, clear, broken, go_through}

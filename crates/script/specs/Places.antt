@@ -1,5 +1,5 @@
 -- The fields of a text and their places, as a cursor gives them. Assumes nothing.
-use Rattle.std.specs.Prelude.{◌≡◌, ℕ, ◌+◌, ◌-◌, ◌<◌, cond, ◌&&◌, ◌⊎◌, List, [], ◌∷◌, length, drop, Some, None, Option, ◌==◌, nat_le, slice_index, slice_range}
+use Rattle.std.specs.Prelude.{◌≡◌, ℕ, ◌+◌, ◌<◌, cond, ◌&&◌, ◌⊎◌, List, [], ◌∷◌, length, drop, Some, None, Option, ◌==◌, nat_le, slice_index, slice_range}
 use Rattle.script.specs.declared.tokens.Field.{Field}
 use Rattle.script.specs.declared.places.Place.{Place}
 use Rattle.script.specs.Tokens.{token_of, token_in, bytes_in}

@@ -1,5 +1,5 @@
 -- What a field is, by its bytes. Assumes nothing.
-use Rattle.std.specs.Prelude.{ℕ, Bool, true, false, cond, ◌&&◌, List, [], ◌∷◌, length, Some, None, Option, nat_le}
+use Rattle.std.specs.Prelude.{ℕ, Bool, true, cond, ◌&&◌, List, [], ◌∷◌, length, Some, None, Option, nat_le}
 use Rattle.script.specs.declared.words.Word.{Word}
 use Rattle.script.specs.declared.numbers.Number.{Number}
 use Rattle.script.specs.declared.tokens.Token.{Token}

@@ -1,5 +1,5 @@
 -- A product of two numbers within the limit.
-use Rattle.std.proofs.Common.{◌≡◌, ◌≤◌, ◌*ℤ◌, nat_abs, sym, refl, ap, ◌∙◌, subst, ap₂, w64, SFits}
+use Rattle.std.proofs.Common.{◌≤◌, ◌*ℤ◌, nat_abs, sym, subst, ap₂, w64, SFits}
 use Rattle.std.proofs.lemmas.Int.{to_z-of_z}
 use Rattle.number.proofs.Products.{product_fits, product_back, product_small}
 use Rattle.number.proofs.product.Goals as goal

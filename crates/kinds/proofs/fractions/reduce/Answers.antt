@@ -1,5 +1,5 @@
 -- Bringing a fraction to lowest terms.
-use Rattle.std.proofs.Common.{◌≡◌, ℕ, ◌^◌, ◌<◌, ℤ, pos, nat_abs, sym, refl, ap, ◌∙◌, subst, ap₂, inl, inr, arith, w64, SFits, to_z, of_z, rules}
+use Rattle.std.proofs.Common.{◌≡◌, ℕ, ◌^◌, ◌<◌, ℤ, nat_abs, sym, ap, ◌∙◌, subst, ap₂, inl, inr, arith, w64, SFits, to_z, of_z}
 use lib.Signed.{quot_z}
 use Rattle.std.proofs.lemmas.Int.{ints, to_z-of_z, to_z_pos}
 use Rattle.number.specs.Gcd.{gcd}

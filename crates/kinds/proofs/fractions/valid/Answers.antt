@@ -1,5 +1,5 @@
 -- Which pairs are lowest terms within the limit.
-use Rattle.std.proofs.Common.{◌≡◌, nat_abs, sym, ap, ◌∙◌, ap₂, arith, w64, SFits, rules}
+use Rattle.std.proofs.Common.{nat_abs, sym, ap, ◌∙◌, ap₂, arith, w64, SFits, rules}
 use Rattle.std.proofs.lemmas.Int.{ints, to_z-of_z}
 use Rattle.number.specs.Gcd.{gcd}
 use Rattle.kinds.specs.Reduced.{within_facts, within_yes}

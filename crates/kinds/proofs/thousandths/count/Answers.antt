@@ -1,5 +1,5 @@
 -- Counting the thousandths of lowest terms.
-use Rattle.std.proofs.Common.{◌≡◌, ◌%◌, nat_abs, Ok, sym, ap, ◌∙◌, inl, inr, arith, w64}
+use Rattle.std.proofs.Common.{◌%◌, nat_abs, Ok, sym, ap, ◌∙◌, inl, inr, arith, w64}
 use Rattle.std.proofs.lemmas.Int.{ints, to_z-of_z}
 use Rattle.kinds.specs.Thousandths.{count_from}
 use Rattle.kinds.proofs.Counted.{count_no, count_yes, made}

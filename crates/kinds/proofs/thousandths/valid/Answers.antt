@@ -1,8 +1,6 @@
 -- Which pairs are counts of thousandths.
-use Rattle.std.proofs.Common.{◌≡◌, pos, ◌*ℤ◌, nat_abs, ◌≤ℤ◌, ◌<ℤ◌, Ok, Err, sym, refl, ap, ◌∙◌, subst, ap₂, inl, inr, arith, w64, SFits, rules}
-use Rattle.std.proofs.lemmas.Int.{ints, to_z-of_z, to_z_pos}
-use Rattle.number.specs.Frac.{Frac, norm, add, sub, mul, less, at_most}
-use Rattle.number.specs.Kind.{held}
+use Rattle.std.proofs.Common.{sym, arith, w64, SFits, rules}
+use Rattle.std.proofs.lemmas.Int.{ints}
 use Rattle.kinds.proofs.thousandths.valid.Goals as goal
 use Rattle.number.proofs.Tests.{is_false}
 use Rattle.kinds.specs.Counting.{counts_facts, counts_yes}

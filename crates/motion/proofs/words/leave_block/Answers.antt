@@ -1,4 +1,4 @@
-use Rattle.std.proofs.Common.{◌≡◌, ℕ, suc, ◌+◌, sym, refl, ◌∙◌, inl, inr, arith}
+use Rattle.std.proofs.Common.{suc, ◌+◌, sym, refl, ◌∙◌, inl, inr, arith}
 use Rattle.motion.specs.declared.words.Word.TheVariants as v
 use Rattle.motion.proofs.LineWords.{walk_opened, walk_closed, walk_to_else, walk_over_else, walk_passed, past_end}
 use Rattle.motion.proofs.words.leave_block.Goals as goal

@@ -1,4 +1,4 @@
-use Rattle.std.proofs.Common.{◌≡◌, ℕ, suc, ◌+◌, sym, ◌∙◌, arith}
+use Rattle.std.proofs.Common.{suc, ◌+◌, sym, ◌∙◌, arith}
 use Rattle.motion.proofs.LineWords.{next_rate, next_else, next_end, next_while, next_stated, past_end}
 use Rattle.motion.proofs.words.next_statement.Goals as goal
 

@@ -1,4 +1,4 @@
-use Rattle.std.proofs.Common.{◌≡◌, sym, ◌∙◌, arith}
+use Rattle.std.proofs.Common.{sym, ◌∙◌, arith}
 use Rattle.script.proofs.Bytes.{feed_more, feed_same, feed_all, note_feed, note_comma, note_plain, note_all}
 use Rattle.script.proofs.checks.look_over.Goals as goal
 use Rattle.script.proofs.checks.look_over.Goals.{then-b-eq10, else-b-eq10+then-b-eq44, else-b-eq10+else-b-eq44}

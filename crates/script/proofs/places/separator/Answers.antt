@@ -1,5 +1,4 @@
-use Rattle.std.proofs.Common.{◌≡◌, length, drop, sym, refl, ◌∙◌, inl, inr, arith}
-use Rattle.script.specs.Places.{walk}
+use Rattle.std.proofs.Common.{length, sym, refl, ◌∙◌, inl, inr, arith}
 use Rattle.script.proofs.Turns.{walk_plain, walk_all}
 use Rattle.script.proofs.places.separator.Goals as goal
 use Rattle.script.proofs.places.separator.Goals.{then-text-i-eq10-via-then-text-i-eq10, then-text-i-eq10-via-else-text-i-eq10+then-text-i-eq44}

@@ -1,5 +1,4 @@
-use Rattle.std.proofs.Common.{◌≡◌, Some, None, Option, rules}
-use Rattle.script.specs.declared.words.Word.{Word}
+use Rattle.std.proofs.Common.{◌≡◌, Some, None, rules}
 use Rattle.script.specs.declared.words.Word.TheVariants as word
 use Rattle.script.specs.Words.{word_of}
 use Rattle.script.proofs.Spelt.{spelled_by}

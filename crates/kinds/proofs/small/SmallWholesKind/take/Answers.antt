@@ -1,6 +1,6 @@
 -- Taking a small whole number.
-use Rattle.std.proofs.Common.{◌≡◌, ◌≤◌, pos, ◌-ℤ◌, nat_abs, sym, ap, ◌∙◌, inl, inr, arith, w64, SFits, rules}
-use Rattle.std.proofs.lemmas.Int.{ints, to_z-of_z}
+use Rattle.std.proofs.Common.{◌≡◌, ◌≤◌, pos, nat_abs, ◌∙◌, inl, inr, arith}
+use Rattle.std.proofs.lemmas.Int.{ints}
 use Rattle.std.proofs.lemmas.Result.{err_from_is_err_and}
 use Rattle.kinds.specs.Fractions.{frac_of, pair_of}
 use Rattle.kinds.specs.Small.{small_of, small_pair}

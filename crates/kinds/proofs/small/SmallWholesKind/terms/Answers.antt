@@ -1,6 +1,6 @@
 -- The lowest terms of a small whole number.
-use Rattle.std.proofs.Common.{◌≡◌, ◌≤◌, pos, ◌-ℤ◌, nat_abs, sym, ap, ◌∙◌, inl, inr, arith, w64, SFits, rules}
-use Rattle.std.proofs.lemmas.Int.{ints, to_z-of_z}
+use Rattle.std.proofs.Common.{◌≡◌, ◌≤◌, pos, ◌-ℤ◌, nat_abs, inl, inr, arith, w64, SFits, rules}
+use Rattle.std.proofs.lemmas.Int.{ints}
 use Rattle.kinds.specs.Smalls.{terms_no, terms_yes, shifted}
 use Rattle.kinds.proofs.small.SmallWholesKind.terms.Goals as goal
 use Rattle.kinds.proofs.small.SmallWholesKind.terms.Goals.{then-p-ne-MARK-via-then-p-ne-MARK, then-p-ne-MARK-via-else-p-ne-MARK+then-p, then-p-ne-MARK-via-else-p-ne-MARK+else-p+then-p-2}

@@ -1,5 +1,5 @@
 -- Taking a fraction as thousandths.
-use Rattle.std.proofs.Common.{◌≡◌, ◌∙◌}
+use Rattle.std.proofs.Common.{◌∙◌}
 use Rattle.std.proofs.lemmas.Result.{err_from_is_err_and}
 use Rattle.kinds.specs.Fractions.{frac_of, pair_of}
 use Rattle.kinds.specs.Thousandths.{thousand_of, count_of}
