@@ -148,7 +148,7 @@ module _ (means : Pair → Option Frac) (code : Frac → Option Pair) (laws : Ho
 module _ {X : Type 0} (s : Checked X) (means : Pair → Option Frac) (code : Frac → Option Pair) (h : Sound s means code) where
   -- its variables are the declared values
   pub variables_declared : s.plan.past.declared ≡ length (declared (lines_in s))
-  variables_declared = h.variables ∙ sym (ap (λ (ls : List Line). length (declared ls)) h.rows)
+  variables_declared = h.found.variables ∙ sym (ap (λ (ls : List Line). length (declared ls)) h.good.rows)
 
   -- its first line that is not var
   pub first_there : first_line 1 (lines_in s) ≡ 1 + s.plan.past.declared
@@ -165,11 +165,11 @@ module _ {X : Type 0} (s : Checked X) (means : Pair → Option Frac) (code : Fra
       enough = omega (arith, variables_declared, declared_few (lines_in s), length-map (rows_in s) (row_line (table_in s) (places_in s)))
 
   pub values_held : Holds means code → Each (Meant means) (declared (lines_in s)) (first_values code (lines_in s))
-  values_held laws = first_held means code laws (table_in s) (places_in s) h.numbers (rows_in s)
+  values_held laws = first_held means code laws (table_in s) (places_in s) h.found.numbers (rows_in s)
 
   -- it has at most 256 lines and 16 variables
   pub lines_few : length (lines_in s) ≤ 256
   lines_few = omega (arith, length-map (rows_in s) (row_line (table_in s) (places_in s)), (laid s means code h).few)
 
   pub values_few : length (declared (lines_in s)) ≤ 16
-  values_few = let k = h.few_variables in omega (arith, variables_declared)
+  values_few = let k = h.found.few_variables in omega (arith, variables_declared)

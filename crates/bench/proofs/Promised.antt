@@ -83,8 +83,8 @@ module _ (means : Pair → Option Frac) (code : Frac → Option Pair) (laws : Ho
 
 -- of a script that passed
 module _ {X : Type 0} (s : Checked X) (means : Pair → Option Frac) (code : Frac → Option Pair) (laws : Holds means code) (h : Sound s means code) where
-  pub spelled : ProgramOf (lines_in s) h.program
-  spelled = subst (λ (ls : List Line). ProgramOf ls h.program) (sym h.rows) h.spelled
+  pub spelled : ProgramOf (lines_in s) h.good.program
+  spelled = subst (λ (ls : List Line). ProgramOf ls h.good.program) (sym h.good.rows) h.good.spelled
 
   pub sound_curve : (b : Bench) (t a : ℕ) → AdvancesOnCurve means code (lines_in s) b t a (advanced (numbers_of means code) (lines_in s) b t a)
-  sound_curve b t a = on_curve means code laws (lines_in s) b t a h.program spelled h.smooth (values_held s means code h laws)
+  sound_curve b t a = on_curve means code laws (lines_in s) b t a h.good.program spelled h.good.smooth (values_held s means code h laws)

@@ -15,8 +15,8 @@ use Rattle.entries.specs.declared.rows.Row.{Row}
 use Rattle.entries.specs.Fields.{lines, not_held, unheld}
 use Rattle.checker.specs.Conditions.{at_first, declared_names}
 use Rattle.entries.specs.Decoding.{names_of, line_of, script_of, place_of, rows_from, rows_lines}
-use Rattle.checker.specs.Checking.{Planned, Passed}
-use Rattle.checker.specs.Laws.{ShallowRuns, Good}
+use Rattle.checker.specs.Checking.{Planned, Ready, Passed}
+use Rattle.checker.specs.Laws.{ShallowRuns, Good, Found}
 use Rattle.checker.specs.Jumps.{Leads}
 use Rattle.checker.proofs.Decoded.{flat, flat_lines, decoded}
 use Rattle.checker.proofs.Counted.{all_counted}
@@ -46,38 +46,49 @@ short_rows : (text : List ℕ) (names : List Place) (at : ℕ) (ls : List (List 
 short_rows text names at [] h = tt
 short_rows text names at (l ∷ ls) h = let k = h.0 in (omega arith, short_rows text names (at + length l) ls h.1)
 
--- a script that passed is good
-pub good : (means : Pair → Option Frac) (code : Frac → Option Pair) (text : List ℕ) (es : List Entry) (p : Plan) → es ≡ entries text → All (λ l. length l ≤ 18) (lines es) → Planned text es p → Passed means code text es p.past → Good means code text es p
-good means code text es p o small h g =
-    let ns : declared_names p.past ≡ names_of (lines es) = lines_names means code text at_first (lines es) p.past refl g.every_line in
-    let ds : map (line_of text (declared_names p.past)) (lines es) ≡ script_of text (lines es) = ap (λ (v : List Place). map (line_of text v) (lines es)) ns in
-    let sh : ShallowRuns (script_of text (lines es)) = subst ShallowRuns ds (runs_shallow 1 _ g.every_run) in
-    let pr = program means code text (names_of (lines es)) 1 at_first (lines es) p.past (refl, omega arith) refl refl g.every_line (closed_depth p.past g.closed) in
-    let vs = declared (script_of text (lines es)) in
-    let n : 1 + length vs ≡ suc (length vs) = omega arith in
-    let rows : rows_lines es (take (length es) p.places.of) (take p.rows.count p.rows.rows) ≡ script_of text (lines es) =
-    ap (λ (xs : List ℕ). rows_lines es xs (take p.rows.count p.rows.rows)) h.places
-    ∙ ap (λ (rs : List Row). rows_lines es (map (place_of text (declared_names p.past)) es) rs) h.rows
-    ∙ decoded text (declared_names p.past) es
-    ∙ ds in
-    let ok = lines_held means code text at_first (lines es) p.past g.every_line in
-    record {
-      own = o;
-      names = ns;
-      rows = rows;
-      passes = g.every_line;
-      closed = closed_depth p.past g.closed;
-      held = ok;
-      numbers = subst (All (λ e. not_held means code e.token ≡ false)) (flat_lines es) (flat_held means code (lines es) ok);
-      placed = ap length h.places ∙ length-map es (place_of text (declared_names p.past));
-      counted = h.counted;
-      few_lines = h.few;
-      short = subst (All (λ r. r.to - r.from ≤ 18)) (sym h.rows) (short_rows text (declared_names p.past) 0 (lines es) small);
-      jumps = subst (λ (ls : List Line). Leads ls p.jumps) rows h.jumps;
-      variables = all_counted means code text (names_of (lines es)) at_first (lines es) p.past (refl, omega arith) g.every_line ∙ zero-add _;
-      few_variables = h.few_names;
-      shallow = sh;
-      program = pr.0;
-      spelled = subst (λ (k : ℕ). Spells k (drop (length vs) (script_of text (lines es))) pr.0) n pr.1;
-      smooth = smooth (1 + length vs) (length vs) (script_of text (lines es)) pr.0 pr.1 sh;
-    }
+module _ (means : Pair → Option Frac) (code : Frac → Option Pair) (text : List ℕ) (es : List Entry) (p : Plan) (h : Planned text es p) (g : Passed means code text es p.past) where
+  names_are : declared_names p.past ≡ names_of (lines es)
+  names_are = lines_names means code text at_first (lines es) p.past refl g.every_line
+
+  lines_are : map (line_of text (declared_names p.past)) (lines es) ≡ script_of text (lines es)
+  lines_are = ap (λ (v : List Place). map (line_of text v) (lines es)) names_are
+
+  rows_are : rows_lines es (take (length es) p.places.of) (take p.rows.count p.rows.rows) ≡ script_of text (lines es)
+  rows_are =
+      ap (λ (xs : List ℕ). rows_lines es xs (take p.rows.count p.rows.rows)) h.places
+      ∙ ap (λ (rs : List Row). rows_lines es (map (place_of text (declared_names p.past)) es) rs) h.rows
+      ∙ decoded text (declared_names p.past) es
+      ∙ lines_are
+
+  -- a script that passed is good
+  pub good : es ≡ entries text → Good means code text es p
+  good o =
+      let sh : ShallowRuns (script_of text (lines es)) = subst ShallowRuns lines_are (runs_shallow 1 _ g.every_run) in
+      let pr = program means code text (names_of (lines es)) 1 at_first (lines es) p.past (refl, omega arith) refl refl g.every_line (closed_depth p.past g.closed) in
+      let vs = declared (script_of text (lines es)) in
+      let n : 1 + length vs ≡ suc (length vs) = omega arith in
+      record {
+        own = o;
+        names = names_are;
+        rows = rows_are;
+        passes = g.every_line;
+        closed = closed_depth p.past g.closed;
+        held = lines_held means code text at_first (lines es) p.past g.every_line;
+        shallow = sh;
+        program = pr.0;
+        spelled = subst (λ (k : ℕ). Spells k (drop (length vs) (script_of text (lines es))) pr.0) n pr.1;
+        smooth = smooth (1 + length vs) (length vs) (script_of text (lines es)) pr.0 pr.1 sh;
+      }
+
+  -- and what a run finds in it is there
+  pub found : Ready es p → All (λ l. length l ≤ 18) (lines es) → Found means code text es p
+  found r small = record {
+    numbers = subst (All (λ e. not_held means code e.token ≡ false)) (flat_lines es) (flat_held means code (lines es) (lines_held means code text at_first (lines es) p.past g.every_line));
+    placed = ap length h.places ∙ length-map es (place_of text (declared_names p.past));
+    counted = r.counted;
+    few_lines = h.few;
+    short = subst (All (λ r. r.to - r.from ≤ 18)) (sym h.rows) (short_rows text (declared_names p.past) 0 (lines es) small);
+    jumps = subst (λ (ls : List Line). Leads ls p.jumps) rows_are r.jumps;
+    variables = all_counted means code text (names_of (lines es)) at_first (lines es) p.past (refl, omega arith) g.every_line ∙ zero-add _;
+    few_variables = r.few_names;
+  }

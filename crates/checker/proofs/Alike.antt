@@ -1,19 +1,17 @@
 -- Two kinds answer alike but for the numbers that they hold. Assumes nothing.
-use Rattle.std.proofs.Common.{◌≡◌, ℕ, Bool, true, false, cond, ◌⊎◌, List, [], ◌∷◌, map, take, Some, None, Ok, Err, Option, Result, sym, refl, ap, ◌∙◌, subst, inl, inr}
+use Rattle.std.proofs.Common.{◌≡◌, ℕ, Bool, true, false, cond, List, [], ◌∷◌, take, Some, None, Ok, Err, Option, Result, sym, refl, ap, subst, inl, inr}
 use Rattle.script.specs.declared.words.LineWord.{LineWord}
 use Rattle.script.specs.declared.reading.Entry.{Entry}
 use Rattle.script.specs.Checks.{and_then}
 use Rattle.number.specs.declared.Pair.{Pair}
 use Rattle.number.specs.Frac.{Frac}
-use Rattle.checker.specs.declared.refusals.Reason.TheVariants.{OtherTable, NameNotDeclared, NumberNotHeld, Items}
+use Rattle.checker.specs.declared.refusals.Reason.TheVariants.{OtherTable, NameNotDeclared, NumberNotHeld}
 use Rattle.checker.specs.declared.refusals.Refusal.{Refusal}
 use Rattle.checker.specs.declared.lines.Past.{Past}
 use Rattle.checker.specs.Refusals.{refused}
 use Rattle.entries.specs.Fields.{lines, unheld, first_word, head_of, second_place}
-use Rattle.checker.specs.Conditions.{refused_at, refused_if, after_var, first_unknown, variable, after_rate, after_block, items_wrong, line_by, line_check, lines_check, at_first, declared_names}
-use Rattle.entries.specs.Decoding.{line_of}
-use Rattle.checker.specs.Chains.{chains_check}
-use Rattle.checker.specs.Checking.{other_table, open_check, entries_check, check_of}
+use Rattle.checker.specs.Conditions.{refused_at, after_var, first_unknown, line_by, line_check, lines_check, at_first}
+use Rattle.checker.specs.Checking.{other_table, entries_check, check_of}
 use Rattle.checker.specs.Laws.{by_number, ButForNumbers, KindsDifferByNumbers}
 
 -- two answers alike, or one of them a refusal by 11

@@ -1,17 +1,16 @@
 -- How many variables a script declares. Assumes nothing.
-use Rattle.std.proofs.Common.{◌≡◌, ℕ, suc, ◌+◌, true, false, List, [], ◌∷◌, map, length, Ok, Option, sym, refl, ap, ◌∙◌, subst, arith}
+use Rattle.std.proofs.Common.{◌≡◌, ℕ, ◌+◌, true, false, List, [], ◌∷◌, map, length, Ok, Option, sym, ap, ◌∙◌, subst, arith}
 use Rattle.script.specs.declared.words.LineWord.{LineWord}
 use Rattle.script.specs.declared.words.LineWord.TheVariants as w
 use Rattle.script.specs.declared.places.Place.{Place}
 use Rattle.script.specs.declared.reading.Entry.{Entry}
 use Rattle.number.specs.declared.Pair.{Pair}
 use Rattle.number.specs.Frac.{Frac}
-use Rattle.motion.specs.Lines.{Line}
 use Rattle.motion.specs.NextLine.{declared}
 use Rattle.entries.specs.Fields.{head_of, second_place, first_word}
 use Rattle.entries.specs.Decoding as D
 use Rattle.checker.specs.declared.lines.Past.{Past}
-use Rattle.checker.specs.Conditions.{variable, with_name, with_other, in_stretch, line_check, lines_check}
+use Rattle.checker.specs.Conditions.{variable, with_name, in_stretch, line_check, lines_check}
 use Rattle.checker.specs.Laws.{LinePasses}
 use Rattle.checker.proofs.Passing.{then_ok, line_passes, after_rate_keeps, after_block_keeps}
 use Rattle.checker.proofs.Nested.{Room, moves, named_is, no_var, var_keeps, none_declared, Told, told, it_is, it_is_not}

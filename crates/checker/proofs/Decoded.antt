@@ -1,13 +1,12 @@
 -- The lines that rows stand for are those of the entries. Assumes nothing.
-use Rattle.std.proofs.Common.{◌≡◌, ℕ, zero, suc, ◌+◌, ◌-◌, ◌<◌, ◌≤◌, Bool, true, false, cond, List, [], ◌∷◌, ◌++◌, map, length, take, drop, sym, refl, ap, ◌∙◌, append_assoc, arith}
+use Rattle.std.proofs.Common.{◌≡◌, ℕ, zero, suc, ◌+◌, ◌-◌, Bool, true, false, cond, List, [], ◌∷◌, ◌++◌, map, length, take, drop, sym, refl, ap, ◌∙◌, arith}
 use Rattle.std.proofs.lemmas.List.{drop-drop, drop-map, take-map}
 use Rattle.script.specs.declared.words.LineWord.{LineWord}
 use Rattle.script.specs.declared.places.Place.{Place}
 use Rattle.script.specs.declared.reading.Entry.{Entry}
 use Rattle.motion.specs.Lines.{Line}
-use Rattle.entries.specs.declared.rows.Row.{Row}
 use Rattle.entries.specs.Fields.{fresh, onto, lines, first_word, head_of, second_place}
-use Rattle.entries.specs.Decoding.{place_at, place_of, before_items, line_by, of_word, line_of, part, row_by, row_of, rows_from, row_line, rows_lines}
+use Rattle.entries.specs.Decoding.{place_at, place_of, before_items, line_by, line_of, part, row_by, rows_from, row_line, rows_lines}
 
 -- the entries of all lines, one after the other
 abbrev pub flat : List (List Entry) → List Entry

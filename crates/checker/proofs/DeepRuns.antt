@@ -1,17 +1,16 @@
 -- The rates behind a run, by their rows. Assumes nothing.
-use Rattle.std.proofs.Common.{◌≡◌, ℕ, suc, ◌+◌, ◌-◌, ◌<◌, ◌≤◌, Bool, true, false, cond, List, [], ◌∷◌, map, length, get_or, take, drop, Ok, Err, Result, sym, refl, ap, ◌∙◌, arith}
+use Rattle.std.proofs.Common.{◌≡◌, ℕ, suc, ◌+◌, ◌-◌, ◌<◌, ◌≤◌, Bool, true, false, cond, List, [], ◌∷◌, map, length, get_or, take, drop, Ok, Err, sym, refl, ap, ◌∙◌, arith}
 use Rattle.std.proofs.lemmas.List.{at_drop_more, at_drop_all}
 use Rattle.script.specs.declared.words.LineWord.{LineWord}
 use Rattle.script.specs.declared.words.LineWord.TheVariants as w
 use Rattle.script.specs.declared.reading.Entry.{Entry}
-use Rattle.motion.specs.Lines.{Line, Rate}
+use Rattle.motion.specs.Lines.{Rate}
 use Rattle.motion.specs.NextLine.{rates}
 use Rattle.checker.specs.declared.refusals.Reason.TheVariants.{Chains}
-use Rattle.checker.specs.declared.refusals.Refusal.{Refusal}
 use Rattle.entries.specs.declared.rows.Row.{Row}
 use Rattle.checker.specs.Refusals.{refused}
-use Rattle.entries.specs.Decoding.{line_by, part, row_line, rows_lines}
-use Rattle.checker.specs.Chains.{is_deep, deep_first, chains_check, is_run, is_rate, rate_count, rate_of}
+use Rattle.entries.specs.Decoding.{row_line, rows_lines}
+use Rattle.checker.specs.Chains.{is_deep, deep_first, chains_check, is_run, rate_count, rate_of}
 
 module _ (es : List Entry) (xs : List ℕ) where
   -- the rates that stand first

@@ -1,5 +1,5 @@
 -- What a script that passed its check gives to a run. Assumes nothing.
-use Rattle.std.proofs.Common.{◌≡◌, ℕ, ◌≤◌, min, List, length, take, Option, sym, ap, ◌∙◌, subst, arith}
+use Rattle.std.proofs.Common.{◌≡◌, min, List, length, Option, sym, subst, arith}
 use Rattle.std.proofs.lemmas.List.{length-take}
 use Rattle.number.specs.declared.Pair.{Pair}
 use Rattle.number.specs.Frac.{Frac}
@@ -14,8 +14,8 @@ module _ {X : Type 0} (s : Checked X) (means : Pair → Option Frac) (code : Fra
   laid h =
       let n : length (rows_in s) ≡ min s.plan.rows.count (length s.plan.rows.rows) = length-take s.plan.rows.count s.plan.rows.rows in
       record {
-        placed = sym h.placed;
-        few = let k = h.few_lines in omega arith;
-        short = h.short;
-        leads = subst (λ (ls : List Line). Leads ls (jumps_in s)) (sym h.rows) h.jumps;
+        placed = sym h.found.placed;
+        few = let k = h.found.few_lines in omega arith;
+        short = h.found.short;
+        leads = subst (λ (ls : List Line). Leads ls (jumps_in s)) (sym h.good.rows) h.found.jumps;
       }

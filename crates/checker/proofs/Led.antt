@@ -1,5 +1,5 @@
 -- Where a run goes on behind each line, found one after the other. Assumes nothing.
-use Rattle.std.proofs.Common.{◌≡◌, ℕ, suc, ◌+◌, ◌<◌, ◌≤◌, ◌≢◌, List, [], ◌∷◌, map, length, get_or, set, sym, refl, ap, ◌∙◌, arith, get_or-set_other, get_or-set_same, below_more}
+use Rattle.std.proofs.Common.{◌≡◌, ℕ, suc, ◌+◌, ◌<◌, ◌≢◌, List, [], ◌∷◌, map, length, get_or, set, sym, refl, ap, ◌∙◌, arith, get_or-set_other, get_or-set_same, below_more}
 use Rattle.script.specs.declared.words.LineWord.{LineWord}
 use Rattle.script.specs.declared.words.LineWord.TheVariants as w
 use Rattle.script.specs.declared.reading.Entry.{Entry}

@@ -18,3 +18,4 @@ pub mod Faults
 pub mod Runs
 pub mod Verdict
 pub mod Lined
+pub mod Short

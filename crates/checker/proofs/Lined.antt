@@ -14,7 +14,7 @@ use Rattle.entries.specs.Fields.{rest_of_line, lines}
 use Rattle.checker.specs.Verdict.{number_on, numbered, LinesOfText, LinesNumbered}
 use Rattle.checker.proofs.Splits.{lines_split}
 
-cells_count : (n k : ℕ) (fs : List (List ℕ)) → length (cells_from n k fs) ≡ length fs
+pub cells_count : (n k : ℕ) (fs : List (List ℕ)) → length (cells_from n k fs) ≡ length fs
 cells_count n k [] = refl
 cells_count n k (f ∷ fs) = ap suc (cells_count n (k + 1) fs)
 

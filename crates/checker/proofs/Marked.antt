@@ -1,14 +1,13 @@
 -- Sets of names as they are marked, and the parts that touch them. Assumes nothing.
-use Rattle.std.proofs.Common.{◌≡◌, ℕ, zero, suc, ◌+◌, ◌-◌, ◌<◌, ◌≤◌, Bool, true, false, cond, not, ◌&&◌, ◌||◌, eqb, ◌≢◌, List, [], ◌∷◌, map, length, get_or, take, drop, set, replicate, sym, refl, ap, ◌∙◌, arith, length-drop}
-use Rattle.std.proofs.lemmas.List.{at_drop_more, at_drop_all, drop_more, get_or-set_same, get_or-set_other}
+use Rattle.std.proofs.Common.{◌≡◌, ℕ, zero, suc, ◌+◌, ◌<◌, ◌≤◌, Bool, true, false, cond, not, ◌&&◌, ◌||◌, eqb, ◌≢◌, List, [], ◌∷◌, map, length, get_or, drop, set, replicate, sym, refl, ap, ◌∙◌, arith, length-drop}
+use Rattle.std.proofs.lemmas.List.{at_drop_more, drop_more, get_or-set_same, get_or-set_other}
 use Rattle.std.proofs.lemmas.Bool.Decides.{nat_tests}
 use Rattle.script.specs.declared.reading.Entry.{Entry}
 use Rattle.motion.specs.Lines.{Part, Rate, Of, one, var}
 use Rattle.motion.specs.Chains.{among, touch, touches, leading, starts}
 use Rattle.entries.specs.declared.rows.Row.{Row}
-use Rattle.entries.specs.Decoding.{parts_of, factor_of, part_of}
+use Rattle.entries.specs.Decoding.{parts_of, factor_of}
 use Rattle.checker.specs.Chains.{touch_in, touches_in, led, some, is_empty, is_deep, Marks, row_name, rate_of}
-use Rattle.entries.specs.Fields.{blank}
 
 pub none_there : (n x : ℕ) → get_or (replicate n false) x false ≡ false
 none_there zero x = refl

@@ -1,5 +1,5 @@
 -- What follows from a check that is passed. Assumes nothing.
-use Rattle.std.proofs.Common.{◌≡◌, ℕ, zero, suc, ◌+◌, ◌-◌, ◌<◌, ◌≤◌, Bool, true, false, cond, not, ◌&&◌, ◌||◌, eqb, ltb, leb, List, [], ◌∷◌, ◌++◌, map, length, get_or, take, drop, set, Some, None, Ok, Err, Option, Result, sym, refl, ap, ◌∙◌, subst, append_assoc, append-nil, arith, length-set}
+use Rattle.std.proofs.Common.{◌≡◌, ℕ, ◌+◌, ◌<◌, Bool, true, false, cond, not, ◌||◌, eqb, ltb, leb, List, [], ◌∷◌, ◌++◌, length, take, Some, None, Ok, Err, Option, Result, sym, refl, ap, ◌∙◌, subst, append_assoc, append-nil, arith, length-set}
 use Rattle.std.specs.List.{AllByRecursion as All}
 use Rattle.std.proofs.lemmas.List.{take_more_set}
 use Rattle.std.proofs.lemmas.Bool.Decides.{nat_tests}
@@ -12,7 +12,7 @@ use Rattle.script.specs.Places.{places}
 use Rattle.script.specs.Reading.{entries}
 use Rattle.number.specs.declared.Pair.{Pair}
 use Rattle.number.specs.Frac.{Frac}
-use Rattle.motion.specs.Lines.{Line, var_line, set_line, run_line, rate_line, if_line, else_line, while_line, end_line, Item, Rate}
+use Rattle.motion.specs.Lines.{Line, run_line, Item, Rate}
 use Rattle.motion.specs.Chains.{Shallow, starts}
 use Rattle.motion.specs.NextLine.{rates}
 use Rattle.motion.proofs.Chains.{shallow_told}
@@ -21,9 +21,9 @@ use Rattle.checker.specs.declared.refusals.Reason.TheVariants.{NameNotDeclared, 
 use Rattle.checker.specs.declared.refusals.Refusal.{Refusal}
 use Rattle.checker.specs.declared.lines.Past.{Past}
 use Rattle.checker.specs.Refusals.{refused}
-use Rattle.entries.specs.Fields.{lines, unheld, first_word, head_of, second_place}
-use Rattle.checker.specs.Conditions.{refused_at, refused_if, var_misplaced, variable, with_name, with_other, declare, after_var, first_unknown, rate_misplaced, rate_on, in_stretch, after_rate, innermost, opened, served, closed, after_block, items_wrong, line_by, line_check, lines_check, at_first, declared_names}
-use Rattle.entries.specs.Decoding.{var_name, names_of, line_of}
+use Rattle.entries.specs.Fields.{unheld, first_word, head_of, second_place}
+use Rattle.checker.specs.Conditions.{refused_at, refused_if, var_misplaced, variable, with_name, with_other, declare, after_var, first_unknown, rate_misplaced, rate_on, after_rate, innermost, after_block, items_wrong, line_by, line_check, lines_check, declared_names}
+use Rattle.entries.specs.Decoding.{var_name, names_of}
 use Rattle.checker.specs.Chains.{is_empty, is_deep, deep_first, chains_check}
 use Rattle.entries.specs.Tables.{same_table}
 use Rattle.checker.specs.Checking.{other_table, open_check}

@@ -1,13 +1,13 @@
 -- Entries by lines, as they are gone through. Assumes nothing.
-use Rattle.std.proofs.Common.{◌≡◌, ℕ, suc, ◌+◌, ◌-◌, ◌<◌, ◌≤◌, Bool, true, false, cond, eqb, List, [], ◌∷◌, length, get_or, take, drop, Ok, Err, Option, Result, sym, refl, ap, ◌∙◌, arith}
-use Rattle.std.proofs.lemmas.List.{at_drop_more, at_drop_all, drop_more, drop-drop}
+use Rattle.std.proofs.Common.{◌≡◌, ℕ, suc, ◌+◌, ◌-◌, ◌<◌, ◌≤◌, Bool, true, false, eqb, List, [], ◌∷◌, length, get_or, take, drop, Ok, Option, Result, sym, refl, ap, ◌∙◌, arith}
+use Rattle.std.proofs.lemmas.List.{at_drop_all, drop_more, drop-drop}
 use Rattle.script.specs.declared.reading.Entry.{Entry}
 use Rattle.script.specs.Checks.{and_then}
 use Rattle.number.specs.declared.Pair.{Pair}
 use Rattle.number.specs.Frac.{Frac}
 use Rattle.checker.specs.declared.refusals.Refusal.{Refusal}
 use Rattle.checker.specs.declared.lines.Past.{Past}
-use Rattle.entries.specs.Fields.{rest_of_line, fresh, onto, lines, blank}
+use Rattle.entries.specs.Fields.{rest_of_line, onto, lines, blank}
 use Rattle.checker.specs.Conditions.{line_check, lines_check}
 
 -- the first line, and the others

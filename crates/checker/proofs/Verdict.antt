@@ -1,5 +1,5 @@
 -- The answer of a check is what the rules of acceptance and refusal say. Assumes nothing.
-use Rattle.std.proofs.Common.{◌≡◌, ℕ, ◌+◌, ◌-◌, ◌<◌, ◌≤◌, Bool, true, false, not, ◌||◌, eqb, ltb, ◌⊎◌, List, [], ◌∷◌, ◌++◌, map, length, get_or, take, Ok, Err, Option, Result, sym, refl, ap, ◌∙◌, subst, inl, inr, arith}
+use Rattle.std.proofs.Common.{◌≡◌, ℕ, ◌+◌, ◌-◌, Bool, true, false, not, ◌||◌, eqb, ltb, ◌⊎◌, List, [], ◌∷◌, ◌++◌, map, length, get_or, take, Ok, Err, Option, Result, sym, refl, ap, ◌∙◌, subst, inl, inr, arith}
 use borrow.Author.Tests.{clash}
 use Rattle.std.proofs.lemmas.Bool.{or_parts, or_cases, not-true, ltb-true, ltb-false, eq-eqb, ne_eqb, cond-true, cond-false}
 use Rattle.std.specs.List.{AllByRecursion as All}
@@ -21,10 +21,10 @@ use Rattle.entries.specs.Tables.{same_table}
 use Rattle.entries.proofs.Owned.{table_same}
 use Rattle.checker.specs.Conditions.{block, at_first, lines_check, declared_names}
 use Rattle.checker.specs.Chains.{chains_check}
-use Rattle.checker.specs.Checking.{sized, other_table, open_check, entries_check, check_of}
-use Rattle.checker.specs.Verdict.{upward, open_above, Passing, Other, too_short, not_its, many_fields, many_lines, long_line, Own, Refused, by_8, bad_line, left_open, by_15, Accepted, Judged}
+use Rattle.checker.specs.Checking.{other_table, open_check, entries_check, check_of}
+use Rattle.checker.specs.Verdict.{upward, open_above, Passing, Other, too_short, not_its, many_fields, many_lines, Own, Refused, by_8, bad_line, left_open, by_15, Accepted, Judged}
 use Rattle.checker.proofs.Passing.{own_table, lines_names}
-use Rattle.checker.proofs.Sized.{own_sized, Long, unsized_told}
+use Rattle.checker.proofs.Sized.{own_sized}
 use Rattle.checker.proofs.OpenBlocks.{opened_none, opened_some}
 use Rattle.checker.proofs.Above.{Knows, knows_first}
 use Rattle.checker.proofs.Faults.{all_right_is, fault_in, GoneThrough, clear, broken, go_through}
@@ -42,7 +42,7 @@ module _ (text : List ℕ) (fields : ℕ) (table : List Entry) where
       let a = or_parts (ltb (length table) fields) _ e in
       let b = or_parts (ltb 4608 fields) _ a.1 in
       let s = own_sized text fields table e in
-      record { enough = ltb-false (length table) fields a.0; its = own_table text fields table e; few_fields = ltb-false 4608 fields b.0; few_lines = s.1; short_lines = s.2 }
+      record { enough = ltb-false (length table) fields a.0; its = own_table text fields table e; few_fields = ltb-false 4608 fields b.0; few_lines = s.1 }
 
   other_told : other_table text fields table ≡ true → Other text fields table
   other_told e = short (or_cases (ltb (length table) fields) _ e)
@@ -50,19 +50,15 @@ module _ (text : List ℕ) (fields : ℕ) (table : List Entry) where
       differs : not (same_table text (places text) (take fields table)) ≡ true → Other text fields table
       differs e = not_its (λ q. clash (sym (not-true _ e) ∙ ap (same_table text (places text)) q ∙ table_same text (places text)))
 
-      unsized : (256 < 0 + length (lines (take fields table))) ⊎ Long (lines (take fields table)) → Other text fields table
-      unsized (inl h) = many_lines (omega arith)
-      unsized (inr (before, l, after, s, h)) = long_line before l after s h
-
-      content : (not (same_table text (places text) (take fields table)) ≡ true) ⊎ (not (sized 0 (lines (take fields table))) ≡ true) → Other text fields table
+      content : (not (same_table text (places text) (take fields table)) ≡ true) ⊎ (ltb 256 (length (lines (take fields table))) ≡ true) → Other text fields table
       content (inl e) = differs e
-      content (inr e) = unsized (unsized_told 0 (lines (take fields table)) (omega arith) (not-true (sized 0 (lines (take fields table))) e))
+      content (inr e) = many_lines (ltb-true 256 (length (lines (take fields table))) e)
 
-      big : (ltb 4608 fields ≡ true) ⊎ ((not (same_table text (places text) (take fields table)) || not (sized 0 (lines (take fields table)))) ≡ true) → Other text fields table
+      big : (ltb 4608 fields ≡ true) ⊎ ((not (same_table text (places text) (take fields table)) || ltb 256 (length (lines (take fields table)))) ≡ true) → Other text fields table
       big (inl e) = many_fields (ltb-true 4608 fields e)
       big (inr e) = content (or_cases (not (same_table text (places text) (take fields table))) _ e)
 
-      short : (ltb (length table) fields ≡ true) ⊎ ((ltb 4608 fields || (not (same_table text (places text) (take fields table)) || not (sized 0 (lines (take fields table))))) ≡ true) → Other text fields table
+      short : (ltb (length table) fields ≡ true) ⊎ ((ltb 4608 fields || (not (same_table text (places text) (take fields table)) || ltb 256 (length (lines (take fields table))))) ≡ true) → Other text fields table
       short (inl e) = too_short (ltb-true (length table) fields e)
       short (inr e) = big (or_cases (ltb 4608 fields) _ e)
 
@@ -71,7 +67,6 @@ module _ (text : List ℕ) (fields : ℕ) (table : List Entry) where
   apart (not_its h) o = h o.its
   apart (many_fields h) o = let e = o.few_fields in omega arith
   apart (many_lines h) o = let e = o.few_lines in omega arith
-  apart (long_line before l after s h) o = let e = in_middle (λ l. length l ≤ 18) before l after (subst (All (λ l. length l ≤ 18)) s o.short_lines) in omega arith
 
   other_is : Other text fields table → other_table text fields table ≡ true
   other_is h = by (other_table text fields table) refl

@@ -1,7 +1,6 @@
 -- What a check answers: the conditions 8 to 15 in their order.
-use Rattle.std.specs.Prelude.{◌≡◌, ℕ, ◌+◌, ◌-◌, ◌≤◌, Bool, true, false, cond, not, ◌&&◌, ◌||◌, List, [], ◌∷◌, map, length, take, Ok, Err, Option, Result, ◌==◌, nat_le, nat_lt}
+use Rattle.std.specs.Prelude.{◌≡◌, ℕ, ◌≤◌, Bool, cond, not, ◌||◌, List, map, length, take, Ok, Err, Option, Result, ◌==◌, nat_lt}
 use Rattle.script.specs.declared.reading.Entry.{Entry}
-use Rattle.script.specs.declared.reading.Draft.{Draft}
 use Rattle.script.specs.Places.{places}
 use Rattle.script.specs.Checks.{and_then}
 use Rattle.number.specs.declared.Pair.{Pair}
@@ -18,16 +17,11 @@ use Rattle.checker.specs.Chains.{chains_check}
 use Rattle.checker.specs.Jumps.{Leads}
 use Rattle.entries.specs.Tables.{same_table}
 
--- behind n lines, at most 256 in all stand here, each of at most 18 entries
-abbrev pub sized : ℕ → List (List Entry) → Bool
-sized n [] = true
-sized n (l ∷ ls) = (nat_lt n 256 && nat_le (length l) 18) && sized (n + 1) ls
-
 -- 8: the table is shorter than the draft's fields, or the entries for them are not what the reader wrote;
--- or there are more fields or lines than a script can have, or longer lines, which no draft has
+-- or there are more fields or lines than a script can have, which no draft has
 abbrev pub other_table : List ℕ → ℕ → List Entry → Bool
 other_table text fields table =
-    nat_lt (length table) fields || (nat_lt 4608 fields || (not (same_table text (places text) (take fields table)) || not (sized 0 (lines (take fields table)))))
+    nat_lt (length table) fields || (nat_lt 4608 fields || (not (same_table text (places text) (take fields table)) || nat_lt 256 (length (lines (take fields table)))))
 
 -- 13: a block is still open behind the last line
 abbrev pub open_check : Past → Result Unit Refusal
@@ -49,13 +43,15 @@ abbrev pub outcome : {A : Type 0} → Result A Refusal → Result Unit Refusal
 outcome (Ok a) = Ok tt
 outcome (Err e) = Err e
 
--- What is prepared for these entries: the names are those declared, each entry has its place among them, each line its row,
--- and behind each line it is known where a run goes on.
+-- What is prepared for these entries: the names are those declared, each entry has its place among them, each line its row.
 pub record Planned (text : List ℕ) (es : List Entry) (p : Plan) : Type 0 where
-  pub few_names : p.past.declared ≤ 16
   pub places : take (length es) p.places.of ≡ map (place_of text (declared_names p.past)) es
   pub few : p.rows.count ≤ 256
   pub rows : take p.rows.count p.rows.rows ≡ rows_from text (declared_names p.past) 0 (lines es)
+
+-- And for a run: at most 16 names are declared, no line is left out, and behind each line it is known where a run goes on.
+pub record Ready (es : List Entry) (p : Plan) : Type 0 where
+  pub few_names : p.past.declared ≤ 16
   pub counted : p.rows.count ≡ length (lines es)
   pub jumps : Leads (rows_lines es (take (length es) p.places.of) (take p.rows.count p.rows.rows)) p.jumps
 

@@ -1,5 +1,5 @@
 -- What holds of scripts that are checked, in the words of the format. Assumes nothing.
-use Rattle.std.specs.Prelude.{◌≡◌, ℕ, ◌-◌, ◌≤◌, Bool, true, false, ◌⊎◌, ◌↔◌, List, [], ◌∷◌, ◌++◌, map, length, take, Some, None, Ok, Err, Option, Result}
+use Rattle.std.specs.Prelude.{◌≡◌, ℕ, ◌-◌, ◌≤◌, false, ◌⊎◌, ◌↔◌, List, [], ◌∷◌, length, take, None, Ok, Err, Option, Result}
 use Rattle.std.specs.List.{AllByRecursion as All}
 use Rattle.script.specs.declared.words.LineWord.{LineWord}
 use Rattle.script.specs.declared.reading.Entry.{Entry}
@@ -11,14 +11,12 @@ use Rattle.motion.specs.Program.{Prog}
 use Rattle.motion.specs.Rules.{ProgramOf}
 use Rattle.motion.specs.Chains.{Shallow, Shallows}
 use Rattle.motion.specs.NextLine.{rates, declared}
-use Rattle.checker.specs.declared.refusals.Reason.{Reason}
-use Rattle.checker.specs.declared.refusals.Reason.TheVariants.{OtherTable, VarOutOfPlace, NameNotDeclared, NumberNotHeld, RateOutOfPlace, Blocks, Items, Chains}
+use Rattle.checker.specs.declared.refusals.Reason.TheVariants.{NumberNotHeld}
 use Rattle.checker.specs.declared.refusals.Refusal.{Refusal}
 use Rattle.checker.specs.declared.lines.Past.{Past}
-use Rattle.checker.specs.Refusals.{refused}
 use Rattle.entries.specs.Fields.{not_held, lines, unheld, second_place}
 use Rattle.checker.specs.Conditions.{after_var, first_unknown, variable, after_rate, after_block, items_wrong, line_by, at_first, lines_check, declared_names}
-use Rattle.entries.specs.Decoding.{names_of, line_of, script_of, rows_lines}
+use Rattle.entries.specs.Decoding.{names_of, script_of, rows_lines}
 use Rattle.checker.specs.Jumps.{Leads}
 use Rattle.checker.specs.Checking.{check_of}
 use Rattle.checker.specs.declared.checking.Plan.{Plan}
@@ -80,6 +78,16 @@ pub record Good (means : Pair → Option Frac) (code : Frac → Option Pair) (te
   pub closed : p.past.depth ≡ 0
   -- every number is held by the kind
   pub held : All (λ l. unheld means code l ≡ None) (lines es)
+  -- no run has a walk of five names among its rates
+  pub shallow : ShallowRuns (script_of text (lines es))
+  -- behind the var lines its lines spell a nested program, of which every stretch is shallow
+  pub program : Prog
+  pub spelled : ProgramOf (script_of text (lines es)) program
+  pub smooth : Shallows program
+
+-- What a run finds in a script that passed.
+pub record Found (means : Pair → Option Frac) (code : Frac → Option Pair) (text : List ℕ) (es : List Entry) (p : Plan) : Type 0 where
+  -- every number is held by the kind
   pub numbers : All (λ e. not_held means code e.token ≡ false) es
   -- each entry has its place among the variables; a row for each line, none of more than 18 entries
   pub placed : length (take (length es) p.places.of) ≡ length es
@@ -91,9 +99,3 @@ pub record Good (means : Pair → Option Frac) (code : Frac → Option Pair) (te
   -- the variables are those of the var lines, which stand first, at most 16
   pub variables : p.past.declared ≡ length (declared (script_of text (lines es)))
   pub few_variables : p.past.declared ≤ 16
-  -- no run has a walk of five names among its rates
-  pub shallow : ShallowRuns (script_of text (lines es))
-  -- behind the var lines its lines spell a nested program, of which every stretch is shallow
-  pub program : Prog
-  pub spelled : ProgramOf (script_of text (lines es)) program
-  pub smooth : Shallows program

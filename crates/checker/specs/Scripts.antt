@@ -13,7 +13,7 @@ use Rattle.checker.specs.declared.checking.Checked.{Checked}
 use Rattle.checker.specs.declared.jumps.Jumps.{Jumps}
 use Rattle.checker.specs.Conditions.{declared_names}
 use Rattle.checker.specs.Jumps.{Leads}
-use Rattle.checker.specs.Laws.{Good}
+use Rattle.checker.specs.Laws.{Good, Found}
 
 module _ {X : Type 0} (s : Checked X) where
   -- its text
@@ -48,9 +48,10 @@ module _ {X : Type 0} (s : Checked X) where
   abbrev pub jumps_in : Jumps
   jumps_in = s.plan.jumps
 
-  -- it passed its check for the kind
-  abbrev pub Sound : (Pair → Option Frac) → (Frac → Option Pair) → Type 0
-  Sound means code = Good means code text_in table_in s.plan
+  -- it passed its check for the kind, and what a run finds in it is there
+  pub record Sound (means : Pair → Option Frac) (code : Frac → Option Pair) : Type 0 where
+    pub good : Good means code text_in table_in s.plan
+    pub found : Found means code text_in table_in s.plan
 
 -- What is prepared in it is laid out as a run goes through it, in whatever kind.
 pub record Laid {X : Type 0} (s : Checked X) : Type 0 where

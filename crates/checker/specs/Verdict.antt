@@ -2,7 +2,7 @@
 -- above it. Total on any entries.
 use Rattle.std.specs.Prelude.{◌≡◌, ℕ, ◌+◌, ◌<◌, ◌≤◌, Bool, true, false, cond, not, ◌&&◌, ◌||◌, ◌↔◌, List, [], ◌∷◌, ◌++◌, map, length, take, drop, Ok, Err, Option, Result, ◌≢◌, nat_le}
 use Rattle.std.specs.Str.{bytes_eq}
-use Rattle.std.specs.List.{list_all, AllByRecursion as All}
+use Rattle.std.specs.List.{list_all}
 use Rattle.script.specs.declared.words.LineWord.{LineWord}
 use Rattle.script.specs.declared.words.LineWord.TheVariants as w
 use Rattle.script.specs.declared.places.Place.{Place}
@@ -190,14 +190,12 @@ RunsKeep text names (l ∷ ls) below = (RunBreaks text names l (ls ++ below) →
 
 -- a check ---------------------------------------------------------------------------
 
--- 8: the table has too few entries, or others than the text; or there are more fields or lines than a script can have, or a line is longer
--- than a line can be
+-- 8: the table has too few entries, or others than the text; or there are more fields or lines than a script can have
 pub data Other (text : List ℕ) (fields : ℕ) (table : List Entry) : Type 0 where
   too_short : length table < fields → Other text fields table
   not_its : (take fields table ≢ entries text) → Other text fields table
   many_fields : 4608 < fields → Other text fields table
   many_lines : 256 < length (lines (take fields table)) → Other text fields table
-  long_line : (before : List (List Entry)) (l : List Entry) (after : List (List Entry)) → lines (take fields table) ≡ before ++ l ∷ after → 18 < length l → Other text fields table
 
 -- none of these: the entries are those of the text
 pub record Own (text : List ℕ) (fields : ℕ) (table : List Entry) : Type 0 where
@@ -205,7 +203,6 @@ pub record Own (text : List ℕ) (fields : ℕ) (table : List Entry) : Type 0 wh
   pub its : take fields table ≡ entries text
   pub few_fields : fields ≤ 4608
   pub few_lines : length (lines (take fields table)) ≤ 256
-  pub short_lines : All (λ l. length l ≤ 18) (lines (take fields table))
 
 module _ (means : Pair → Option Frac) (code : Frac → Option Pair) (text : List ℕ) (fields : ℕ) (table : List Entry) where
   -- A draft is refused with the first condition that holds: 8; then line by line 9 to 14; then 13 for a block that is left open, at the

@@ -4,10 +4,10 @@ ghost use Rattle.entries.specs.Fields.{lines};
 ghost use Rattle.checker.specs.Conditions.{Kept, declared_names};
 ghost use Rattle.entries.specs.Decoding.{rows_lines, line_of};
 ghost use Rattle.checker.specs.Chains.{chains_check};
-ghost use Rattle.checker.specs.Laws.{KindsDifferByNumbers, LinesJudged, Good};
+ghost use Rattle.checker.specs.Laws.{KindsDifferByNumbers, LinesJudged, Good, Found};
 ghost use Rattle.checker.specs.Verdict.{Judged, LinesOfText, LinesNumbered};
 ghost use Rattle.checker.specs.Scripts.{table_in, places_in, rows_in, jumps_in, variable_in, Sound, Laid};
-ghost use Rattle.checker.specs.Checking.{sized, other_table, open_check, entries_check, check_of, outcome, answer_of, Planned, Passed};
+ghost use Rattle.checker.specs.Checking.{other_table, open_check, entries_check, check_of, outcome, answer_of, Planned, Ready, Passed};
 
 use crate::chains::check_chains;
 use crate::jumps::{Jumps, find_jumps};
@@ -29,21 +29,17 @@ pub struct Plan {
     pub jumps: Jumps,
 }
 
-// Whether there are at most 256 lines, each of at most 18 entries.
-fn is_sized(table: &[Entry]) -> bool
-    ensures { result ≡ sized 0 (lines table.now) }
+// How many lines there are.
+fn count_lines(table: &[Entry]) -> usize
+    ensures { result ≡ length (lines table.now) }
 {
     let mut count: usize = 0;
     let mut at: usize = 0;
     while at < table.len() {
-        let to = line_end(table, at);
-        if count >= 256 || to - at > 18 {
-            return false;
-        }
-        at = to;
+        at = line_end(table, at);
         count += 1;
     }
-    true
+    count
 }
 
 // 8: the table does not hold what the reader wrote.
@@ -57,7 +53,7 @@ fn is_other_table(text: &[u8], fields: usize, table: &[Entry]) -> bool
         return true;
     }
     let entries = &table[..fields];
-    !same_table(text, entries) || !is_sized(entries)
+    !same_table(text, entries) || count_lines(entries) > 256
 }
 
 // 13: a block is still open behind the last line.
@@ -74,7 +70,7 @@ fn check_open(past: Past) -> Result<(), Refusal>
 // What is prepared for these entries.
 fn make_plan(text: &[u8], past: Past, table: &[Entry]) -> Option<Plan>
     requires { (Kept past) × ((length table.now ≤ 4608) × (length (lines table.now) ≤ 256)) }
-    ensures { MatchOption result ⊥ (λ p. (p.past ≡ past) × Planned text.now table.now p) }
+    ensures { MatchOption result ⊥ (λ p. (p.past ≡ past) × Planned text.now table.now p × Ready table.now p) }
 {
     let places = find_places(text, &past.names[..past.declared], table);
     match find_rows(text, &past.names[..past.declared], table) {
@@ -105,6 +101,7 @@ fn check_entries<K: Kind>(text: &[u8], table: &[Entry]) -> Result<Plan, Refusal>
     requires { (length table.now ≤ 4608) × (length (lines table.now) ≤ 256) }
     ensures answer { outcome result ≡ entries_check K.Kind.means K.Kind.code text.now table.now }
     ensures plan { IfOk result (Planned text.now table.now) }
+    ensures ready { IfOk result (Ready table.now) }
     ensures passed { IfOk result (λ p. Passed K.Kind.means K.Kind.code text.now table.now p.past) }
 {
     let past = check_lines::<K>(text, table)?;
@@ -133,6 +130,7 @@ pub fn check<'t, 'a, K: Kind>(
     ensures answer { answer_of result ≡ check_of K.Kind.means K.Kind.code draft.entry.text.now draft.entry.fields table.now }
     ensures judged { Judged K.Kind.means K.Kind.code draft.entry.text.now draft.entry.fields table.now (answer_of result) }
     ensures good { IfOk result (λ s. Good K.Kind.means K.Kind.code s.text.now s.table.now s.plan) }
+    ensures found { IfOk result (λ s. Found K.Kind.means K.Kind.code s.text.now s.table.now s.plan) }
     ensures script { MatchResult result (λ s. (s.text.now ≡ draft.entry.text.now) × (s.table.now ≡ take draft.entry.fields table.now) × Planned s.text.now s.table.now s.plan) (λ e. (e.0.text.now ≡ draft.entry.text.now) × (e.0.lines ≡ draft.entry.lines) × (e.0.fields ≡ draft.entry.fields)) }
 {
     let text = draft.text();
@@ -162,9 +160,9 @@ impl<K> Checked<'_, '_, K> {
 
     // How many lines it has.
     pub fn lines(&self) -> usize
-        ensures { result ≡ self.now.plan.rows.count }
+        ensures { result ≡ length (lines self.now.table.now) }
     {
-        self.plan.rows.count
+        count_lines(self.table)
     }
 
     // Its entries.

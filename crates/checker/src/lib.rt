@@ -12,4 +12,5 @@ mod rows;
 pub use checking::{
     Checked, check, kinds_differ_by_numbers, lines_judged, lines_of_text, scripts_laid,
 };
+pub use entries::items_sorted;
 pub use refusals::{Reason, Refusal};

@@ -1,12 +1,13 @@
 -- The answer is what the rules of acceptance and refusal say. Assumes nothing.
-use Rattle.std.proofs.Common.{◌≡◌, ℕ, ◌+◌, Bool, true, false, cond, ltb, List, length, Some, None, Ok, Err, Result, sym, refl, ap, ◌∙◌, subst, arith}
+use Rattle.std.proofs.Common.{◌≡◌, ℕ, ◌+◌, Bool, true, false, cond, ◌&&◌, ltb, nat_lt, List, length, Some, None, Ok, Err, Result, sym, refl, ap, ◌∙◌, subst, arith}
 use Rattle.std.specs.List.{AllByRecursion as All}
+use Rattle.std.proofs.lemmas.Bool.{cond-false}
 use Rattle.std.proofs.lemmas.Bool.Decides.{nat_tests}
 use Rattle.script.specs.declared.refusals.Refusal.{Refusal}
 use Rattle.script.specs.declared.refusals.Reason.TheVariants.{TextTooLong, NoLineFeedAtEnd, TooManyLines}
 use Rattle.script.specs.Lines.{rows, fields_in}
 use Rattle.script.specs.Refusals.{refused}
-use Rattle.script.specs.Checks.{feeds, unended, stray, spot, by_stray, text_check, and_then, rows_check}
+use Rattle.script.specs.Checks.{feeds, unended, stray, spot, by_stray, text_check, and_then, rows_check, passes, is_in_order}
 use Rattle.script.specs.Scan.{scan, line_check}
 use Rattle.script.specs.Reading.{table_check, read_of, scan_of}
 use Rattle.script.specs.Laws.{too_long, too_many_lines, all_allowed, commas_after, Whole, Right, Fault, Refused, text_too_long, no_line_feed, stray_byte, many_lines, bad_line, table_too_short, Accepted, Told, Alone}
@@ -131,3 +132,18 @@ pass_by_end text room false h = same_after (text_check text) (scanned text room)
 
 pub scan_is_read : (text : List ℕ) (room : ℕ) → scan_of text room ≡ read_of text room
 scan_is_read text room = pass_by_end text room (unended text) refl
+
+-- a text that both checks pass is in order ----------------------------------------
+
+both_pass : {A B E C : Type 0} (r : Result A E) (s : Result B E) (k : A → B → Result C E) (c : C) → and_then r (λ a. and_then s (k a)) ≡ Ok c → (passes r && passes s) ≡ true
+both_pass (Ok a) (Ok b) k c h = refl
+both_pass (Ok a) (Err e) k c h = let z : ◌≡◌ {A = ℕ} 0 1 = cc in absurd (omega arith)
+both_pass (Err e) s k c h = let z : ◌≡◌ {A = ℕ} 0 1 = cc in absurd (omega arith)
+
+has_room : (lines fields : ℕ) → table_check fields lines fields ≡ Ok (lines, fields)
+has_room lines fields = cond-false (nat_lt fields fields) _ _ (grind (arith, nat_tests))
+
+pub ordered : (text : List ℕ) (lines fields : ℕ) → text_check text ≡ Ok lines → line_check text ≡ Ok fields → is_in_order text ≡ true
+ordered text lines fields h k =
+    let scanned_so : scan_of text fields ≡ Ok (lines, fields) = rw (h, k) (has_room lines fields) in
+    both_pass (text_check text) (rows_check 1 (rows text)) (λ n _. table_check fields n (fields_in (rows text))) (lines, fields) (sym (scan_is_read text fields) ∙ scanned_so)

@@ -12,7 +12,7 @@ use Rattle.script.specs.declared.refusals.Reason.TheVariants.{TextTooLong, NoLin
 use Rattle.script.specs.Words.{line_word, is_item, is_one}
 use Rattle.script.specs.Numbers.{digit}
 use Rattle.script.specs.Tokens.{letter, token_of}
-use Rattle.script.specs.Lines.{Row, first, others, width}
+use Rattle.script.specs.Lines.{Row, rows, first, others, width}
 use Rattle.script.specs.Refusals.{refused}
 
 -- the first of two, where there is one
@@ -135,3 +135,12 @@ row_check line r = by_word line r (line_word (first r))
 abbrev pub rows_check : ℕ → List Row → Result Unit Refusal
 rows_check line [] = Ok tt
 rows_check line (r ∷ rs) = and_then (row_check line r) (λ _. rows_check (line + 1) rs)
+
+-- no refusal
+abbrev pub passes : {A E : Type 0} → Result A E → Bool
+passes (Ok a) = true
+passes (Err e) = false
+
+-- nothing is wrong with the text, neither as a whole nor on a line
+abbrev pub is_in_order : List ℕ → Bool
+is_in_order text = passes (text_check text) && passes (rows_check 1 (rows text))

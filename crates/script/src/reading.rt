@@ -1,14 +1,13 @@
-// A text is read into the caller's table.
-ghost use Rattle.std.specs.Prelude.{◌≡◌, ℕ, ◌≤◌, length, take, IfOk, MatchResult, OnOk};
-ghost use Rattle.script.specs.Places.{places};
-ghost use Rattle.script.specs.Lines.{rows, written};
-ghost use Rattle.script.specs.Reading.{put, read_of, scan_of, summary, table_after, filled};
-ghost use Rattle.script.specs.Laws.{Told, Alone, Entered};
+// What a reading gives: the entries of the fields, and the draft.
+ghost use Rattle.std.specs.Prelude.{◌≡◌, true};
+ghost use Rattle.script.specs.Checks.{is_in_order};
 
-use crate::checks::{check_lines, check_text};
-use crate::places::{Cursor, Place};
-use crate::refusals::{Reason, Refusal};
+use crate::places::Place;
 use crate::tokens::Token;
+
+mod entering;
+
+pub use entering::read;
 
 // One field of a script: where it stands and what it is.
 #[derive(Clone, Copy)]
@@ -37,57 +36,8 @@ pub struct Draft<'t> {
     text: &'t [u8],
     lines: usize,
     fields: usize,
-}
-
-fn write_entries(text: &[u8], table: &mut [Entry])
-    requires { length (places text.now) ≤ length table.old }
-    ensures { table.new ≡ put text.now 0 (places text.now) table.old }
-{
-    let mut cursor = Cursor::new(text);
-    let mut i: usize = 0;
-    while let Some((field, place)) = cursor.next() {
-        table[i] = Entry {
-            place,
-            token: field.token(),
-        };
-        i += 1;
-    }
-}
-
-fn read_checked<'t>(text: &'t [u8], table: &mut [Entry]) -> Result<Draft<'t>, Refusal>
-    ensures answer { summary result ≡ scan_of text.now (length table.old) }
-    ensures table { table.new ≡ table_after (scan_of text.now (length table.old)) text.now table.old }
-    ensures text { IfOk result (λ d. d.text.now ≡ text.now) }
-{
-    let lines = check_text(text)?;
-    let fields = check_lines(text)?;
-    if fields > table.len() {
-        return Err(Refusal {
-            reason: Reason::TableTooShort,
-            line: 0,
-            field: 0,
-        });
-    }
-    write_entries(text, table);
-    Ok(Draft {
-        text,
-        lines,
-        fields,
-    })
-}
-
-// Reads a text. Accepted: the table holds an entry for each field, in order, and what stood behind them.
-// Refused: the table is as it was.
-pub fn read<'t>(text: &'t [u8], table: &mut [Entry]) -> Result<Draft<'t>, Refusal>
-    ensures answer { summary result ≡ read_of text.now (length table.old) }
-    ensures table { MatchResult result (λ _. table.new ≡ filled text.now table.old) (λ _. table.new ≡ table.old) }
-    ensures text { IfOk result (λ d. d.text.now ≡ text.now) }
-    ensures rules { Told text.now (length table.old) (summary result) }
-    ensures alone { Alone text.now (length table.old) }
-    ensures again { OnOk result (written (rows text.now) ≡ text.now) }
-    ensures entered { IfOk result (λ d. Entered text.now (take d.fields table.new)) }
-{
-    read_checked(text, table)
+    // nothing is wrong with the text
+    pub ghost in_order: { is_in_order text.now ≡ true },
 }
 
 impl<'t> Draft<'t> {

@@ -61,16 +61,16 @@ module _ (means : Pair → Option Frac) (code : Frac → Option Pair) (script : 
 module _ {X : Type 0} (s : Checked X) (means : Pair → Option Frac) (code : Frac → Option Pair) (laws : Holds means code) (h : Sound s means code) where
   pub sound_more : (us : List Step) (b c : M.Bench Pair) (call : Call) (reply : Reply) → Performed means code (lines_in s) (variable_in s) us b → Replies means code (lines_in s) (variable_in s) b call reply c →
       Performed means code (lines_in s) (variable_in s) (us ++ (step call reply ∷ [])) c
-  sound_more us b c call reply k r = performed_more means code (lines_in s) (variable_in s) laws h.program (spelled s means code laws h) h.smooth (values_held s means code h laws) us b c call reply k r
+  sound_more us b c call reply k r = performed_more means code (lines_in s) (variable_in s) laws h.good.program (spelled s means code laws h) h.good.smooth (values_held s means code h laws) us b c call reply k r
 
   -- its lines and variables are those of its text
   pub lines_told : (text : List ℕ) → text_in s ≡ text → lines_in s ≡ script_in text
-  lines_told text e = h.rows ∙ ap (λ (es : List Entry). script_of (text_in s) (lines es)) h.own ∙ ap script_in e
+  lines_told text e = h.good.rows ∙ ap (λ (es : List Entry). script_of (text_in s) (lines es)) h.good.own ∙ ap script_in e
 
   variable_told : (text : List ℕ) → text_in s ≡ text → variable_in s ≡ variable_of text
   variable_told text e =
       let f : List Place → List ℕ → Option ℕ = λ ns name. find (text_in s) ns 0 name in
-      ap f (h.names ∙ ap (λ (es : List Entry). names_of (lines es)) h.own) ∙ ap variable_of e
+      ap f (h.good.names ∙ ap (λ (es : List Entry). names_of (lines es)) h.good.own) ∙ ap variable_of e
 
   pub promised : (text : List ℕ) (steps : List Step) (b : M.Bench Pair) → text_in s ≡ text → Performed means code (lines_in s) (variable_in s) steps b → Promise means code text steps b
   promised text steps b e k =

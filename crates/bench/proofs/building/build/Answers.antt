@@ -17,7 +17,7 @@ returns g c =
     let p : take (length rows) ps ≡ map (value_in g.K.Kind.code (table_in s)) rows =
     subst (λ (es : List Entry). take (length rows) ps ≡ map (value_in g.K.Kind.code es) rows) c.table.ensures c.first_pairs.ensures in
     record {
-      new = λ h. let n = new_there s g.K.Kind.means g.K.Kind.code h rows ps (c.var_rows-rows.ensures.rows h.few_variables) p in λ i. record { line = n.1 i; left = 0; total = 0; over = 0; values = n.0 i };
-      held = λ h. let n = new_there s g.K.Kind.means g.K.Kind.code h rows ps (c.var_rows-rows.ensures.rows h.few_variables) p in subst (Each (Meant g.K.Kind.means) (declared (lines_in s))) (sym n.0) (values_held s g.K.Kind.means g.K.Kind.code h g.met.K.Kind.sound);
+      new = λ h. let n = new_there s g.K.Kind.means g.K.Kind.code h rows ps (c.var_rows-rows.ensures.rows h.found.few_variables) p in λ i. record { line = n.1 i; left = 0; total = 0; over = 0; values = n.0 i };
+      held = λ h. let n = new_there s g.K.Kind.means g.K.Kind.code h rows ps (c.var_rows-rows.ensures.rows h.found.few_variables) p in subst (Each (Meant g.K.Kind.means) (declared (lines_in s))) (sym n.0) (values_held s g.K.Kind.means g.K.Kind.code h g.met.K.Kind.sound);
       few = c.var_rows-rows.ensures.few;
     }

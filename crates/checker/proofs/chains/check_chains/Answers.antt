@@ -1,4 +1,4 @@
-use Rattle.std.proofs.Common.{◌≡◌, ◌+◌, Err, sym, ap, ◌∙◌}
+use Rattle.std.proofs.Common.{◌+◌, Err, sym, ap, ◌∙◌}
 use Rattle.script.specs.declared.words.LineWord.TheVariants as w
 use Rattle.entries.proofs.Turns.{on_true, on_false}
 use Rattle.checker.proofs.DeepRuns.{chains_turn, chains_over}

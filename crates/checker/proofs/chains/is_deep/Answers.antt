@@ -1,4 +1,4 @@
-use Rattle.std.proofs.Common.{◌≡◌, ℕ, List, map, ap, ◌∙◌}
+use Rattle.std.proofs.Common.{ℕ, List, map, ap, ◌∙◌}
 use Rattle.motion.specs.Chains.{among}
 use Rattle.checker.specs.Chains.{rate_of}
 use Rattle.checker.proofs.Marked.{deep_marks, names_of_rates}

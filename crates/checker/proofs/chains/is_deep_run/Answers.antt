@@ -1,4 +1,3 @@
-use Rattle.std.proofs.Common.{arith}
 use Rattle.checker.proofs.DeepRuns.{run_at, no_run_at}
 use Rattle.checker.proofs.chains.is_deep_run.Goals as goal
 

@@ -1,4 +1,4 @@
-use Rattle.std.proofs.Common.{◌≡◌, Bool, false, ◌||◌, List, map, get_or, sym, ap, ◌∙◌}
+use Rattle.std.proofs.Common.{false, List, map, get_or, sym, ap, ◌∙◌}
 use Rattle.std.proofs.lemmas.List.{at_drop_all}
 use Rattle.entries.specs.declared.rows.Row.{Row}
 use Rattle.checker.specs.declared.chains.Level.{Level}

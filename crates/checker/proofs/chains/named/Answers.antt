@@ -1,4 +1,4 @@
-use Rattle.std.proofs.Common.{◌≡◌, Bool, false, ◌||◌, List, map, get_or, drop, sym, ap, ◌∙◌}
+use Rattle.std.proofs.Common.{false, List, map, get_or, sym, ◌∙◌}
 use Rattle.std.proofs.lemmas.List.{at_drop_all}
 use Rattle.motion.specs.Chains.{among}
 use Rattle.entries.specs.declared.rows.Row.{Row}

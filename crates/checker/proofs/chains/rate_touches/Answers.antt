@@ -1,4 +1,4 @@
-use Rattle.std.proofs.Common.{◌≡◌, ℕ, List, length, sym, ap, ◌∙◌}
+use Rattle.std.proofs.Common.{ℕ, List, length, sym, ap, ◌∙◌}
 use Rattle.script.specs.declared.reading.Entry.{Entry}
 use Rattle.entries.specs.Decoding.{part, parts_of}
 use Rattle.checker.specs.Chains.{touches_in}

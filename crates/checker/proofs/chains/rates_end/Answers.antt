@@ -1,4 +1,4 @@
-use Rattle.std.proofs.Common.{◌≡◌, sym, refl, ◌∙◌, arith}
+use Rattle.std.proofs.Common.{sym, ◌∙◌, arith}
 use Rattle.checker.proofs.RateRows.{rate_more, rate_none, rate_over}
 use Rattle.checker.proofs.chains.rates_end.Goals as goal
 

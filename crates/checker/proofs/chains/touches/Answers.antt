@@ -1,6 +1,4 @@
-use Rattle.std.proofs.Common.{◌≡◌, ◌+◌, Bool, ◌||◌, drop, sym, ap, ◌∙◌, arith}
-use Rattle.entries.specs.Decoding.{parts_of}
-use Rattle.checker.specs.Chains.{touches_in}
+use Rattle.std.proofs.Common.{sym, ◌∙◌, arith}
 use Rattle.entries.proofs.Turns.{or_true, or_false}
 use Rattle.checker.proofs.Marked.{touch_turn, touch_over}
 use Rattle.checker.proofs.chains.touches.Goals as goal

@@ -1,4 +1,4 @@
-use Rattle.std.proofs.Common.{◌≡◌, ℕ, List, map, take, ap, ◌∙◌}
+use Rattle.std.proofs.Common.{ℕ, List, map, take, ap, ◌∙◌}
 use Rattle.entries.specs.declared.rows.Row.{Row}
 use Rattle.checker.specs.Conditions.{declared_names}
 use Rattle.entries.specs.Decoding.{place_of, rows_lines}

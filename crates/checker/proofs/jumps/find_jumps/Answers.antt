@@ -1,5 +1,4 @@
-use Rattle.std.proofs.Common.{◌≡◌, ℕ, ◌<◌, List, length, ◌∙◌, arith, length-set}
-use Rattle.script.specs.declared.reading.Entry.{Entry}
+use Rattle.std.proofs.Common.{◌∙◌, arith, length-set}
 use Rattle.motion.specs.NextLine.{onward}
 use Rattle.entries.specs.Decoding.{rows_lines}
 use Rattle.checker.proofs.Led.{words_of, as_many, both_more}

@@ -1,4 +1,4 @@
-use Rattle.std.proofs.Common.{◌≡◌, sym, refl, ◌∙◌, arith}
+use Rattle.std.proofs.Common.{sym, ◌∙◌, arith}
 use Rattle.entries.proofs.Turns.{line_more, line_here, line_none}
 use Rattle.checker.proofs.line_ends.line_end.Goals as goal
 

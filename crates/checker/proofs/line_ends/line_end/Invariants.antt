@@ -1,4 +1,4 @@
-use Rattle.std.proofs.Common.{◌≡◌, ◌+◌, ◌<◌, drop}
+use Rattle.std.proofs.Common.{◌≡◌, ◌+◌, drop}
 use Rattle.entries.specs.Fields.{rest_of_line}
 use Rattle.checker.proofs.line_ends.line_end.Given as goal
 

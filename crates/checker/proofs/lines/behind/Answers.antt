@@ -1,4 +1,4 @@
-use Rattle.std.proofs.Common.{◌≡◌, [], sym, arith, drop_of_length-le}
+use Rattle.std.proofs.Common.{sym, arith, drop_of_length-le}
 use Rattle.std.proofs.lemmas.List.{take_rest}
 use Rattle.checker.proofs.lines.behind.Goals as goal
 

@@ -1,4 +1,4 @@
-use Rattle.std.proofs.Common.{◌≡◌, Ok, Err, sym, refl, ◌∙◌, arith}
+use Rattle.std.proofs.Common.{Ok, Err, sym, refl, ◌∙◌, arith}
 use Rattle.std.proofs.lemmas.Result.{err_from_is_err_and}
 use Rattle.checker.proofs.Splits.{line_turn, lines_over}
 use Rattle.checker.proofs.lines.check_lines.Goals as goal

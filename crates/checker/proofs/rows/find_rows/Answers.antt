@@ -1,4 +1,4 @@
-use Rattle.std.proofs.Common.{refl, arith, length-set}
+use Rattle.std.proofs.Common.{arith, length-set}
 use Rattle.checker.proofs.LaidOut.{row_turn, fewer, rows_over, some_line}
 use Rattle.checker.proofs.Splits.{no_lines}
 use Rattle.checker.proofs.rows.find_rows.Goals as goal

@@ -2,7 +2,7 @@ use Rattle.std.proofs.Common.{◌≡◌, ◌+◌, length}
 use Rattle.script.specs.Places.{places}
 use Rattle.script.specs.Reading.{put}
 use Rattle.script.proofs.Ahead.{ahead}
-use Rattle.script.proofs.reading.write_entries.Given as goal
+use Rattle.script.proofs.reading.entering.write_entries.Given as goal
 
 abbrev pub invariant-loop-field : goal.invariant-loop-field
 invariant-loop-field l =

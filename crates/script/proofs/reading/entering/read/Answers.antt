@@ -1,7 +1,7 @@
 use Rattle.std.proofs.Common.{length}
 use Rattle.script.proofs.Verdict.{alone}
 use Rattle.script.proofs.Answered.{answer, rules, again, fills, entered}
-use Rattle.script.proofs.reading.read.Goals as goal
+use Rattle.script.proofs.reading.entering.read.Goals as goal
 
 pub returns : goal.returns
 returns c =
