@@ -1,15 +1,14 @@
 -- Where a kind replies, it gives the exact answer.
-use Rattle.std.proofs.Common.{◌≡◌, ℕ, Bool, true, false, cond, ℤ, pos, nat_abs, Some, None, Ok, Err, Option, Result, sym, refl, ap, ◌∙◌, subst, ap₂}
+use Rattle.std.proofs.Common.{◌≡◌, Bool, true, false, cond, ℤ, pos, nat_abs, Some, Ok, Err, Option, Result, sym, refl, ap, ◌∙◌, subst, ap₂}
 use lib.Signed.{le_z}
 use Rattle.number.specs.declared.Pair.{Pair}
 use Rattle.number.specs.declared.Fault.{Fault}
 use Rattle.number.specs.declared.Fault.TheVariants.{NotHeld, ZeroDivisor}
 use Rattle.number.specs.Frac.{Frac, norm, add, sub, mul, div, scale, less, at_most}
-use Rattle.number.specs.Kind.{Holds, held, then, taken, of_one, of_two, exact2, divided, scaled, in_terms, asked2, is_naught}
+use Rattle.number.specs.Kind.{Holds, held, then, taken, of_one, of_two, exact2, divided, scaled, asked2, is_naught}
 use Rattle.number.proofs.Answered.{err_ok, held_ok, exact2_means, scaled_means}
 use Rattle.calculator.specs.declared.reading.Operation.{Operation}
 use Rattle.calculator.specs.declared.reading.Operation.TheVariants.{Add, Sub, Mul, Div, Lt, Le}
-use Rattle.calculator.specs.declared.reading.Ratio.{Ratio}
 use Rattle.calculator.specs.declared.reading.Question.{Question}
 use Rattle.calculator.specs.declared.reading.Question.TheVariants.{Take, Two, Scale}
 use Rattle.calculator.specs.declared.answering.Reply.{Reply}

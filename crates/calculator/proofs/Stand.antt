@@ -1,10 +1,8 @@
 -- The theorems of the answers.
-use Rattle.std.proofs.Common.{◌≡◌, Ok, Err, codes, Option, Result, sym, refl, ◌∙◌, subst}
-use Rattle.number.specs.declared.Pair.{Pair}
-use Rattle.number.specs.declared.Fault.{Fault}
+use Rattle.std.proofs.Common.{◌≡◌, Ok, sym, refl, ◌∙◌, subst}
 use Rattle.std.specs.Fmt.{digits}
 use Rattle.number.specs.Gcd.{gcd, steps}
-use Rattle.number.specs.Frac.{Frac, lowest, naught, norm, whole, add, neg, sub, mul, flip, inverse, div, scale, less, at_most}
+use Rattle.number.specs.Frac.{lowest, naught, norm, whole, add, neg, sub, mul, flip, inverse, div, scale, less, at_most}
 use Rattle.kinds.specs.Fractions.{made, frac_of, pair_of}
 use Rattle.kinds.specs.Thousandths.{thousand_of, counted, count_of}
 use Rattle.kinds.specs.Small.{small_of, small_pair}

@@ -1,5 +1,5 @@
 -- What a kind answers to a question.
-use Rattle.std.specs.Prelude.{◌≡◌, ℕ, Bool, ℤ, pos, Ok, Err, Option, Result, unsigned_abs}
+use Rattle.std.specs.Prelude.{◌≡◌, pos, Ok, Err, Option, Result, unsigned_abs}
 use Rattle.number.specs.declared.Pair.{Pair}
 use Rattle.number.specs.declared.Fault.{Fault}
 use Rattle.number.specs.Frac.{Frac, norm, add, sub, mul, div, scale, less, at_most}

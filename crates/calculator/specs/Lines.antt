@@ -1,5 +1,5 @@
 -- What is printed for a line.
-use Rattle.std.specs.Prelude.{ℕ, Bool, true, false, cond, List, [], ◌∷◌, ◌++◌, ℤ, pos, negsuc, Some, None, Ok, Err, codes, Option, Result, ◌==◌}
+use Rattle.std.specs.Prelude.{ℕ, Bool, true, false, cond, List, ◌++◌, ℤ, pos, negsuc, Some, None, Ok, Err, codes, Option, Result, ◌==◌}
 use Rattle.std.specs.Fmt.{signed_decimal}
 use Rattle.number.specs.declared.Fault.{Fault}
 use Rattle.number.specs.declared.Fault.TheVariants.{NotHeld, ZeroDivisor}

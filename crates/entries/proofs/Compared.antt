@@ -1,5 +1,5 @@
 -- Entries compared with those of a text, one after the other. Assumes nothing.
-use Rattle.std.proofs.Common.{◌≡◌, ℕ, suc, ◌+◌, ◌<◌, ◌≤◌, Bool, true, false, ◌&&◌, eqb, List, [], ◌∷◌, length, get_or, drop, sym, refl, ap, ◌∙◌, arith, length-drop}
+use Rattle.std.proofs.Common.{◌≡◌, ℕ, ◌+◌, ◌<◌, ◌≤◌, Bool, true, false, ◌&&◌, eqb, List, [], ◌∷◌, length, get_or, drop, sym, ap, ◌∙◌, arith, length-drop}
 use Rattle.std.proofs.lemmas.List.{at_drop_more, at_drop_all}
 use Rattle.std.proofs.lemmas.Bool.Decides.{nat_tests}
 use Rattle.script.specs.declared.tokens.Token.{Token}
@@ -7,7 +7,6 @@ use Rattle.script.specs.declared.places.Place.{Place}
 use Rattle.script.specs.declared.reading.Entry.{Entry}
 use Rattle.script.specs.Tokens.{token_of}
 use Rattle.script.specs.Places.{bytes_at}
-use Rattle.script.specs.Reading.{entry_of}
 use Rattle.entries.specs.Tables.{same_entry, same_table}
 
 module _ (text : List ℕ) (ps qs : List Place) (p : Place) (es : List Entry) (i : ℕ) (next : p ∷ qs ≡ ps) where

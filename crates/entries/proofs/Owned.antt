@@ -1,9 +1,7 @@
 -- A table that is the same as the text's entries is made of them. Assumes nothing.
-use Rattle.std.proofs.Common.{◌≡◌, ℕ, Bool, true, false, cond, not, ◌&&◌, eqb, List, [], ◌∷◌, map, sym, refl, ap, ◌∙◌, arith}
+use Rattle.std.proofs.Common.{◌≡◌, ℕ, Bool, true, false, cond, ◌&&◌, eqb, List, [], ◌∷◌, map, sym, refl, ap, ◌∙◌, arith}
 use Rattle.std.proofs.lemmas.Bool.Decides.{nat_tests}
-use Rattle.script.specs.declared.words.LineWord.{LineWord}
 use Rattle.script.specs.declared.words.LineWord.TheVariants as l
-use Rattle.script.specs.declared.words.Operator.{Operator}
 use Rattle.script.specs.declared.words.Operator.TheVariants as o
 use Rattle.script.specs.declared.words.Word.{Word}
 use Rattle.script.specs.declared.words.Word.TheVariants as word
@@ -13,7 +11,7 @@ use Rattle.script.specs.declared.numbers.Number.{Number}
 use Rattle.script.specs.declared.places.Place.{Place}
 use Rattle.script.specs.declared.reading.Entry.{Entry}
 use Rattle.script.specs.Reading.{entry_of}
-use Rattle.entries.specs.Tables.{line_code, operator_code, word_code, same_flag, same_number, same_token, same_place, same_entry, same_table}
+use Rattle.entries.specs.Tables.{word_code, same_flag, same_number, same_token, same_place, same_entry, same_table}
 
 -- the word of a number
 abbrev word_from : ℕ → Word

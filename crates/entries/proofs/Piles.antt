@@ -1,12 +1,11 @@
 -- The slots of a pile as what waits. Assumes nothing.
-use Rattle.std.proofs.Common.{◌≡◌, ℕ, zero, suc, ◌+◌, ◌-◌, ◌<◌, ◌≤◌, Bool, true, false, cond, ltb, ◌≢◌, List, [], ◌∷◌, length, get_or, drop, set, Some, None, Option, sym, refl, ap, ◌∙◌, arith}
+use Rattle.std.proofs.Common.{◌≡◌, ℕ, zero, suc, ◌+◌, ◌-◌, ◌<◌, ◌≤◌, true, false, ltb, ◌≢◌, List, [], ◌∷◌, length, get_or, drop, set, Some, None, Option, sym, refl, ap, ◌∙◌, arith}
 use Rattle.std.proofs.lemmas.List.{get_or-set_same, get_or-set_other, at_drop_more, at_drop_all}
 use Rattle.std.proofs.lemmas.Bool.{lt-ltb, le-ltb}
 use Rattle.script.specs.declared.reading.Entry.{Entry}
 use Rattle.entries.specs.declared.sorts.Sort.{Sort}
 use Rattle.entries.specs.declared.sorts.Sort.TheVariants.{Number, Truth}
-use Rattle.entries.specs.declared.sorts.Pile.{Pile}
-use Rattle.entries.specs.Sorts.{piled, waiting, push, of_numbers, of_truths, of_truth, after_item, after_items, and_then, alone, came_to, seen}
+use Rattle.entries.specs.Sorts.{piled, push, of_numbers, of_truths, of_truth, after_item, after_items, and_then, alone}
 
 pub piled_long : (n : ℕ) (xs : List Sort) → length (piled n xs) ≡ n
 piled_long zero xs = refl

@@ -1,5 +1,5 @@
 -- Items that keep the rules, worked out. Assumes nothing.
-use Rattle.std.proofs.Common.{◌≡◌, ℕ, suc, Bool, true, false, cond, not, ltb, List, [], ◌∷◌, map, length, Some, None, Option, sym, refl, ap, ◌∙◌, subst, arith}
+use Rattle.std.proofs.Common.{◌≡◌, ℕ, suc, Bool, true, false, cond, ltb, List, [], ◌∷◌, map, length, Some, None, Option, refl, ap, ◌∙◌, arith}
 use Rattle.script.specs.declared.words.Operator.{Operator}
 use Rattle.script.specs.declared.words.Operator.TheVariants as o
 use Rattle.script.specs.declared.words.Word.TheVariants as word
@@ -10,7 +10,7 @@ use Rattle.motion.specs.Numbers.{Numbers, Divided, quot, by_zero}
 use Rattle.motion.specs.Numbers as M
 use Rattle.motion.specs.Lines.{Calculation, Connective}
 use Rattle.motion.specs.Lines as L
-use Rattle.motion.specs.Items.{Value, num, truth, Got, good, bad, bind, wait, number_at, quotient_at, truth_at, nth, calculated, combined, item, items}
+use Rattle.motion.specs.Items.{Value, num, truth, Got, good, bad, bind, wait, number_at, quotient_at, truth_at, nth, calculated, item, items}
 use Rattle.entries.specs.declared.sorts.Sort.{Sort}
 use Rattle.entries.specs.declared.sorts.Sort.TheVariants as s
 use Rattle.entries.specs.Sorts.{push, of_numbers, of_truths, of_truth, operate, after_item, and_then, after_items}

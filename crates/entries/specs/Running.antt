@@ -1,5 +1,5 @@
 -- What the items of a line that passed can come to when they are worked out.
-use Rattle.std.specs.Prelude.{◌≡◌, ℕ, List, [], ◌∷◌, map, length, Some, None, Option}
+use Rattle.std.specs.Prelude.{◌≡◌, ℕ, List, [], map, length, Some}
 use Rattle.script.specs.declared.reading.Entry.{Entry}
 use Rattle.motion.specs.Numbers.{Numbers}
 use Rattle.motion.specs.Items.{Value, num, truth, Got, good, bad, items}

@@ -1,5 +1,5 @@
 -- Condition 8: the table does not hold what the reader wrote, tested against the text itself. Total on any entries.
-use Rattle.std.specs.Prelude.{ℕ, Bool, true, false, not, ◌&&◌, ◌||◌, List, [], ◌∷◌, length, ◌==◌}
+use Rattle.std.specs.Prelude.{ℕ, Bool, true, false, not, ◌&&◌, List, [], ◌∷◌, ◌==◌}
 use Rattle.script.specs.declared.words.LineWord.{LineWord}
 use Rattle.script.specs.declared.words.LineWord.TheVariants as l
 use Rattle.script.specs.declared.words.Operator.{Operator}

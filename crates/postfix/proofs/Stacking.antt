@@ -14,7 +14,7 @@ use Rattle.postfix.specs.declared.stack.Stack.{Stack}
 use Rattle.postfix.specs.declared.working.Calculation.{Calculation}
 use Rattle.postfix.specs.declared.working.Connective.{Connective}
 use Rattle.postfix.specs.Located.{located}
-use Rattle.postfix.specs.Stacks.{Waiting, zero_slot, value_of, stacked, waiting, valued, left_with, stack_after, one_number, calculation_of, connective_of, on_numbers, on_truths, on_truth}
+use Rattle.postfix.specs.Stacks.{Waiting, zero_slot, value_of, stacked, waiting, valued, left_with, stack_after, one_number, calculation_of, connective_of, on_numbers, on_truths}
 
 -- slots -----------------------------------------------------------------------
 

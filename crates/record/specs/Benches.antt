@@ -1,5 +1,5 @@
 -- The record of a bench as the bench that the rules of a run speak of.
-use Rattle.std.specs.Prelude.{List, ℕ, take}
+use Rattle.std.specs.Prelude.{List, take}
 use Rattle.number.specs.declared.Pair.{Pair}
 use Rattle.motion.specs.Machine as M
 use Rattle.record.specs.declared.Values.{Values}

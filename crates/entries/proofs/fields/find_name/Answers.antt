@@ -1,4 +1,4 @@
-use Rattle.std.proofs.Common.{◌≡◌, sym, refl, ap, ◌∙◌}
+use Rattle.std.proofs.Common.{sym, ap, ◌∙◌}
 use Rattle.std.specs.Str.{bytes_eq}
 use Rattle.entries.proofs.Turns.{on_true, on_false, find_turn, find_none}
 use Rattle.entries.proofs.fields.find_name.Goals as goal

@@ -1,4 +1,3 @@
-use Rattle.std.proofs.Common.{arith}
 use Rattle.entries.proofs.Parts.{cut_there, cut_at_end, none_there, none_behind}
 use Rattle.entries.proofs.rows.between.Goals as goal
 use Rattle.entries.proofs.rows.between.Goals.{then-to-xs, else-to-xs}

@@ -1,4 +1,4 @@
-use Rattle.std.proofs.Common.{◌≡◌, sym, ap, ◌∙◌}
+use Rattle.std.proofs.Common.{sym, ap, ◌∙◌}
 use Rattle.entries.specs.Sorts.{came_to}
 use Rattle.entries.proofs.Piles.{not_one}
 use Rattle.entries.proofs.sorts.items_give.Goals as goal

@@ -1,4 +1,4 @@
-use Rattle.std.proofs.Common.{◌≡◌, Some, None, sym, refl, ◌∙◌, arith}
+use Rattle.std.proofs.Common.{Some, None, sym, ◌∙◌}
 use Rattle.entries.specs.Sorts.{waiting}
 use Rattle.entries.proofs.Piles.{turn, all_done}
 use Rattle.entries.proofs.sorts.take_items.Goals as goal

@@ -1,4 +1,4 @@
-use Rattle.std.proofs.Common.{◌≡◌, sym, arith}
+use Rattle.std.proofs.Common.{sym, arith}
 use Rattle.entries.proofs.Piles.{few_numbers, two_numbers, number_first, number_second}
 use Rattle.entries.proofs.sorts.take_numbers.Goals as goal
 

@@ -1,5 +1,5 @@
-use Rattle.std.proofs.Common.{◌≡◌, sym, arith}
-use Rattle.entries.proofs.Piles.{no_truth, one_truth, one_number}
+use Rattle.std.proofs.Common.{sym, arith}
+use Rattle.entries.proofs.Piles.{one_truth, one_number}
 use Rattle.entries.proofs.sorts.take_truth.Goals as goal
 
 pub returns-in-Number : goal.returns-in-Number

@@ -1,4 +1,4 @@
-use Rattle.std.proofs.Common.{◌≡◌, sym, arith}
+use Rattle.std.proofs.Common.{sym, arith}
 use Rattle.entries.proofs.Piles.{few_truths, two_truths, truth_first, truth_second}
 use Rattle.entries.proofs.sorts.take_truths.Goals as goal
 
