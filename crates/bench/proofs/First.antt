@@ -1,7 +1,7 @@
 -- The var lines that stand first in a script, and their values. Assumes nothing.
 use Rattle.std.proofs.Common.{◌≡◌, ℕ, zero, suc, ◌+◌, ◌-◌, ◌<◌, ◌≤◌, Bool, true, false, cond, List, [], ◌∷◌, map, length, take, drop, ℤ, pos, nat_abs, Some, None, Ok, Err, Option, Result, sym, refl, ap, ◌∙◌, subst, arith}
 use lib.Signed.{le_z}
-use Rattle.std.specs.List.{AllByRecursion as All}
+use Rattle.std.specs.List.{AllByRecursion}
 use Rattle.std.proofs.lemmas.List.{length-map, length-take-le}
 use Rattle.script.specs.declared.words.LineWord.{LineWord}
 use Rattle.script.specs.declared.words.LineWord.TheVariants as w
@@ -81,12 +81,12 @@ first_of_rows code es xs rows n e =
     ∙ ap (map (held_pair code)) (sym (declared_rows es xs rows))
 
 -- parts of a list of which each holds
-all_drop : {X : Type 0} (P : X → Type 0) (n : ℕ) (xs : List X) → All P xs → All P (drop n xs)
+all_drop : {X : Type 0} (P : X → Type 0) (n : ℕ) (xs : List X) → AllByRecursion P xs → AllByRecursion P (drop n xs)
 all_drop P zero xs h = h
 all_drop P (suc n) [] h = h
 all_drop P (suc n) (x ∷ xs) h = all_drop P n xs h.1
 
-all_take : {X : Type 0} (P : X → Type 0) (n : ℕ) (xs : List X) → All P xs → All P (take n xs)
+all_take : {X : Type 0} (P : X → Type 0) (n : ℕ) (xs : List X) → AllByRecursion P xs → AllByRecursion P (take n xs)
 all_take P zero xs h = tt
 all_take P (suc n) [] h = h
 all_take P (suc n) (x ∷ xs) h = (h.0, all_take P n xs h.1)
@@ -117,20 +117,20 @@ module _ (means : Pair → Option Frac) (code : Frac → Option Pair) (laws : Ho
   token_held (token.Number n) h = number_held n h
   token_held token.Other h = naught_held
 
-  value_held : (es : List Entry) → All (λ e. not_held means code e.token ≡ false) es → Held (value_of es)
+  value_held : (es : List Entry) → AllByRecursion (λ e. not_held means code e.token ≡ false) es → Held (value_of es)
   value_held [] h = naught_held
   value_held (e ∷ es) h = token_held e.token h.0
 
-  each_held : (qs : List Frac) → All Held qs → Each (Meant means) qs (map (held_pair code) qs)
+  each_held : (qs : List Frac) → AllByRecursion Held qs → Each (Meant means) qs (map (held_pair code) qs)
   each_held [] h = nil
   each_held (q ∷ qs) h = cons h.0 (each_held qs h.1)
 
-  module _ (es : List Entry) (xs : List ℕ) (numbers : All (λ e. not_held means code e.token ≡ false) es) where
-    declared_held : (rows : List Row) → All Held (declared (rows_lines es xs rows))
+  module _ (es : List Entry) (xs : List ℕ) (numbers : AllByRecursion (λ e. not_held means code e.token ≡ false) es) where
+    declared_held : (rows : List Row) → AllByRecursion Held (declared (rows_lines es xs rows))
     declared_held [] = tt
     declared_held (r ∷ rows) = by r.word (declared_held rows)
       where
-        by : (v : LineWord) → All Held (declared (rows_lines es xs rows)) → All Held (declared (line_by v r.name (part r.from r.to es) (part r.from r.to xs) ∷ rows_lines es xs rows))
+        by : (v : LineWord) → AllByRecursion Held (declared (rows_lines es xs rows)) → AllByRecursion Held (declared (line_by v r.name (part r.from r.to es) (part r.from r.to xs) ∷ rows_lines es xs rows))
         by w.Var h = (value_held (part r.from r.to es) (all_take _ (r.to - r.from) (drop r.from es) (all_drop _ r.from es numbers)), h)
         by w.Set h = tt
         by w.Run h = tt

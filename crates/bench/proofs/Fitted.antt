@@ -2,7 +2,7 @@
 use Rattle.std.proofs.Common.{◌≡◌, ℕ, zero, suc, ◌+◌, ◌<◌, ◌≤◌, Bool, true, false, ◌&&◌, ◌||◌, eqb, leb, List, [], ◌∷◌, length, get_or, Some, None, Option, sym, refl, ap, ◌∙◌, subst, arith}
 use Rattle.std.proofs.lemmas.List.{get_or_past}
 use Rattle.std.proofs.lemmas.Bool.Decides.{nat_tests}
-use Rattle.std.specs.List.{AllByRecursion as All}
+use Rattle.std.specs.List.{AllByRecursion}
 use Rattle.number.specs.declared.Pair.{Pair}
 use Rattle.number.specs.Frac.{Frac}
 use Rattle.motion.specs.Lines.{Line, end_line}
@@ -34,7 +34,7 @@ run_there (l ∷ ls) (suc zero) h = (omega arith, omega arith)
 run_there (l ∷ ls) (suc (suc m)) h = let k = run_there ls (suc m) h in (omega arith, omega (arith, k.1))
 
 -- every value is of the kind
-all_of_kind : (means : Pair → Option Frac) (code : Frac → Option Pair) (vs : List Pair) → F.all_numbers (numbers_of means code) vs ≡ true → All (OfKind means) vs
+all_of_kind : (means : Pair → Option Frac) (code : Frac → Option Pair) (vs : List Pair) → F.all_numbers (numbers_of means code) vs ≡ true → AllByRecursion (OfKind means) vs
 all_of_kind means code [] h = tt
 all_of_kind means code (v ∷ vs) h =
     let k = both (F.answered (means v)) (F.all_numbers (numbers_of means code) vs) h in
@@ -68,7 +68,7 @@ module _ (means : Pair → Option Frac) (code : Frac → Option Pair) (script : 
       by false false p q h = end h
 
   -- a bench that fits is within the bounds of the hand-over line, and its values are of the kind
-  pub fits_within : (b : M.Bench Pair) → F.fits (numbers_of means code) script b ≡ true → Within b × All (OfKind means) b.values
+  pub fits_within : (b : M.Bench Pair) → F.fits (numbers_of means code) script b ≡ true → Within b × AllByRecursion (OfKind means) b.values
   fits_within b h =
       let a = both (eqb (length b.values) (length (declared script))) _ h in
       let n = both (F.all_numbers (numbers_of means code) b.values) _ a.1 in

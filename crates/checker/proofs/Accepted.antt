@@ -1,7 +1,7 @@
 -- A script that passed its check is good. Assumes nothing.
 use Rattle.std.proofs.Common.{◌≡◌, ℕ, suc, ◌+◌, ◌-◌, ◌≤◌, Bool, true, false, cond, List, [], ◌∷◌, ◌++◌, map, length, take, drop, Some, None, Option, sym, refl, ap, ◌∙◌, subst, zero-add, arith}
 use lib.ListN.{length-map}
-use Rattle.std.specs.List.{AllByRecursion as All}
+use Rattle.std.specs.List.{AllByRecursion}
 use Rattle.script.specs.declared.places.Place.{Place}
 use Rattle.script.specs.declared.reading.Entry.{Entry}
 use Rattle.script.specs.Reading.{entries}
@@ -25,24 +25,24 @@ use Rattle.checker.proofs.Nested.{program, smooth}
 
 -- every number of a line is held where none is the first that is not
 module _ (means : Pair → Option Frac) (code : Frac → Option Pair) where
-  all_held : (l : List Entry) → unheld means code l ≡ None → All (λ e. not_held means code e.token ≡ false) l
+  all_held : (l : List Entry) → unheld means code l ≡ None → AllByRecursion (λ e. not_held means code e.token ≡ false) l
   all_held [] h = tt
   all_held (e ∷ l) h = by (not_held means code e.token) refl h (all_held l)
     where
-      by : (b : Bool) → not_held means code e.token ≡ b → cond b (Some e.place.field) (unheld means code l) ≡ None → (unheld means code l ≡ None → All (λ e. not_held means code e.token ≡ false) l) → (not_held means code e.token ≡ false) × All (λ e. not_held means code e.token ≡ false) l
+      by : (b : Bool) → not_held means code e.token ≡ b → cond b (Some e.place.field) (unheld means code l) ≡ None → (unheld means code l ≡ None → AllByRecursion (λ e. not_held means code e.token ≡ false) l) → (not_held means code e.token ≡ false) × AllByRecursion (λ e. not_held means code e.token ≡ false) l
       by true p q go = let z : ◌≡◌ {A = ℕ} 0 1 = cc in absurd (omega arith)
       by false p q go = (p, go q)
 
-  joined : (P : Entry → Type 0) (l m : List Entry) → All P l → All P m → All P (l ++ m)
+  joined : (P : Entry → Type 0) (l m : List Entry) → AllByRecursion P l → AllByRecursion P m → AllByRecursion P (l ++ m)
   joined P [] m h k = k
   joined P (e ∷ l) m h k = (h.0, joined P l m h.1 k)
 
-  flat_held : (ls : List (List Entry)) → All (λ l. unheld means code l ≡ None) ls → All (λ e. not_held means code e.token ≡ false) (flat ls)
+  flat_held : (ls : List (List Entry)) → AllByRecursion (λ l. unheld means code l ≡ None) ls → AllByRecursion (λ e. not_held means code e.token ≡ false) (flat ls)
   flat_held [] h = tt
   flat_held (l ∷ ls) h = joined _ l (flat ls) (all_held l h.0) (flat_held ls h.1)
 
 -- the rows of short lines are short
-short_rows : (text : List ℕ) (names : List Place) (at : ℕ) (ls : List (List Entry)) → All (λ l. length l ≤ 18) ls → All (λ r. r.to - r.from ≤ 18) (rows_from text names at ls)
+short_rows : (text : List ℕ) (names : List Place) (at : ℕ) (ls : List (List Entry)) → AllByRecursion (λ l. length l ≤ 18) ls → AllByRecursion (λ r. r.to - r.from ≤ 18) (rows_from text names at ls)
 short_rows text names at [] h = tt
 short_rows text names at (l ∷ ls) h = let k = h.0 in (omega arith, short_rows text names (at + length l) ls h.1)
 
@@ -81,13 +81,13 @@ module _ (means : Pair → Option Frac) (code : Frac → Option Pair) (text : Li
       }
 
   -- and what a run finds in it is there
-  pub found : Ready es p → All (λ l. length l ≤ 18) (lines es) → Found means code text es p
+  pub found : Ready es p → AllByRecursion (λ l. length l ≤ 18) (lines es) → Found means code text es p
   found r small = record {
-    numbers = subst (All (λ e. not_held means code e.token ≡ false)) (flat_lines es) (flat_held means code (lines es) (lines_held means code text at_first (lines es) p.past g.every_line));
+    numbers = subst (AllByRecursion (λ e. not_held means code e.token ≡ false)) (flat_lines es) (flat_held means code (lines es) (lines_held means code text at_first (lines es) p.past g.every_line));
     placed = ap length h.places ∙ length-map es (place_of text (declared_names p.past));
     counted = r.counted;
     few_lines = h.few;
-    short = subst (All (λ r. r.to - r.from ≤ 18)) (sym h.rows) (short_rows text (declared_names p.past) 0 (lines es) small);
+    short = subst (AllByRecursion (λ r. r.to - r.from ≤ 18)) (sym h.rows) (short_rows text (declared_names p.past) 0 (lines es) small);
     jumps = subst (λ (ls : List Line). Leads ls p.jumps) rows_are r.jumps;
     variables = all_counted means code text (names_of (lines es)) at_first (lines es) p.past (refl, omega arith) g.every_line ∙ zero-add _;
     few_variables = r.few_names;

@@ -1,6 +1,6 @@
 -- What follows from a check that is passed. Assumes nothing.
 use Rattle.std.proofs.Common.{◌≡◌, ℕ, ◌+◌, ◌<◌, Bool, true, false, cond, not, ◌||◌, eqb, ltb, leb, List, [], ◌∷◌, ◌++◌, length, take, Some, None, Ok, Err, Option, Result, sym, refl, ap, ◌∙◌, subst, append_assoc, append-nil, arith, length-set}
-use Rattle.std.specs.List.{AllByRecursion as All}
+use Rattle.std.specs.List.{AllByRecursion}
 use Rattle.std.proofs.lemmas.List.{take_more_set}
 use Rattle.std.proofs.lemmas.Bool.Decides.{nat_tests}
 use Rattle.script.specs.declared.words.LineWord.{LineWord}
@@ -192,7 +192,7 @@ module _ (means : Pair → Option Frac) (code : Frac → Option Pair) (text : Li
       ∙ append_assoc (declared_names p) (var_name (first_word (head_of l).token) (second_place l)) (names_of ls)
 
   -- every number is held
-  pub lines_held : (p : Past) (ls : List (List Entry)) (q : Past) → lines_check means code text p ls ≡ Ok q → All (λ l. unheld means code l ≡ None) ls
+  pub lines_held : (p : Past) (ls : List (List Entry)) (q : Past) → lines_check means code text p ls ≡ Ok q → AllByRecursion (λ l. unheld means code l ≡ None) ls
   lines_held p [] q e = tt
   lines_held p (l ∷ ls) q e =
       let a = then_ok (line_check means code text p l) _ q e in

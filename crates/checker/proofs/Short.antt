@@ -2,7 +2,7 @@
 use Rattle.std.proofs.Common.{◌≡◌, ℕ, suc, ◌+◌, ◌≤◌, Bool, true, false, cond, ◌&&◌, leb, List, [], ◌∷◌, map, length, Some, None, Ok, Err, Option, Result, sym, refl, ap, ◌∙◌, subst, arith}
 use Rattle.std.proofs.lemmas.List.{length-map}
 use Rattle.std.proofs.lemmas.Bool.Decides.{nat_tests}
-use Rattle.std.specs.List.{AllByRecursion as All}
+use Rattle.std.specs.List.{AllByRecursion}
 use Rattle.script.specs.declared.words.LineWord.{LineWord}
 use Rattle.script.specs.declared.words.LineWord.TheVariants.{Var, Set, Run, Rate, If, Else, While, End}
 use Rattle.script.specs.declared.reading.Entry.{Entry}
@@ -46,7 +46,7 @@ first_passes : (a b : Result Unit Refusal) → passes (and_then a (λ _. b)) ≡
 first_passes (Ok u) b h = (refl, h)
 first_passes (Err e) b h = let z : ◌≡◌ {A = ℕ} 0 1 = cc in absurd (omega arith)
 
-rows_short : (line : ℕ) (rs : List Row) → passes (rows_check line rs) ≡ true → All (λ r. width r ≤ 18) rs
+rows_short : (line : ℕ) (rs : List Row) → passes (rows_check line rs) ≡ true → AllByRecursion (λ r. width r ≤ 18) rs
 rows_short line [] h = tt
 rows_short line (r ∷ rs) h =
     let k = first_passes (row_check line r) (rows_check (line + 1) rs) h in
@@ -56,11 +56,11 @@ rows_short line (r ∷ rs) h =
 row_length : (n : ℕ) (r : Row) → length (row_cells n r) ≡ width r
 row_length n (row f fs) = ap suc (cells_count n 2 fs) ∙ omega arith
 
-numbered_short : (n : ℕ) (rs : List Row) → All (λ r. width r ≤ 18) rs → All (λ cs. length cs ≤ 18) (numbered n rs)
+numbered_short : (n : ℕ) (rs : List Row) → AllByRecursion (λ r. width r ≤ 18) rs → AllByRecursion (λ cs. length cs ≤ 18) (numbered n rs)
 numbered_short n [] h = tt
 numbered_short n (r ∷ rs) h = let k = h.0 in (let e = row_length n r in omega arith, numbered_short (n + 1) rs h.1)
 
-mapped_short : (text : List ℕ) (ls : List (List Entry)) → All (λ cs. length cs ≤ 18) (map (map (cell_of text)) ls) → All (λ l. length l ≤ 18) ls
+mapped_short : (text : List ℕ) (ls : List (List Entry)) → AllByRecursion (λ cs. length cs ≤ 18) (map (map (cell_of text)) ls) → AllByRecursion (λ l. length l ≤ 18) ls
 mapped_short text [] h = tt
 mapped_short text (l ∷ ls) h = let k = h.0 in (let e = length-map l (cell_of text) in omega arith, mapped_short text ls h.1)
 
@@ -72,8 +72,8 @@ ended a true e f r h = by a h
     by false h = let z : ◌≡◌ {A = ℕ} 0 1 = cc in absurd (omega arith)
 ended a false e f r h = refl
 
-pub lines_short : (text : List ℕ) → is_in_order text ≡ true → All (λ l. length l ≤ 18) (lines (entries text))
+pub lines_short : (text : List ℕ) → is_in_order text ≡ true → AllByRecursion (λ l. length l ≤ 18) (lines (entries text))
 lines_short text h =
     let k = both (passes (text_check text)) _ h in
     let u : unended text ≡ false = ended _ (unended text) _ _ _ k.0 in
-    mapped_short text (lines (entries text)) (subst (All (λ cs. length cs ≤ 18)) (sym (lines_of_text text u)) (numbered_short 1 (rows text) (rows_short 1 (rows text) k.1)))
+    mapped_short text (lines (entries text)) (subst (AllByRecursion (λ cs. length cs ≤ 18)) (sym (lines_of_text text u)) (numbered_short 1 (rows text) (rows_short 1 (rows text) k.1)))

@@ -1,6 +1,6 @@
 -- What holds of scripts that are checked, in the words of the format. Assumes nothing.
 use Rattle.std.specs.Prelude.{◌≡◌, ℕ, ◌-◌, ◌≤◌, false, ◌⊎◌, ◌↔◌, List, [], ◌∷◌, length, take, None, Ok, Err, Option, Result}
-use Rattle.std.specs.List.{AllByRecursion as All}
+use Rattle.std.specs.List.{AllByRecursion}
 use Rattle.script.specs.declared.words.LineWord.{LineWord}
 use Rattle.script.specs.declared.reading.Entry.{Entry}
 use Rattle.script.specs.Reading.{entries}
@@ -77,7 +77,7 @@ pub record Good (means : Pair → Option Frac) (code : Frac → Option Pair) (te
   pub passes : lines_check means code text at_first (lines es) ≡ Ok p.past
   pub closed : p.past.depth ≡ 0
   -- every number is held by the kind
-  pub held : All (λ l. unheld means code l ≡ None) (lines es)
+  pub held : AllByRecursion (λ l. unheld means code l ≡ None) (lines es)
   -- no run has a walk of five names among its rates
   pub shallow : ShallowRuns (script_of text (lines es))
   -- behind the var lines its lines spell a nested program, of which every stretch is shallow
@@ -88,12 +88,12 @@ pub record Good (means : Pair → Option Frac) (code : Frac → Option Pair) (te
 -- What a run finds in a script that passed.
 pub record Found (means : Pair → Option Frac) (code : Frac → Option Pair) (text : List ℕ) (es : List Entry) (p : Plan) : Type 0 where
   -- every number is held by the kind
-  pub numbers : All (λ e. not_held means code e.token ≡ false) es
+  pub numbers : AllByRecursion (λ e. not_held means code e.token ≡ false) es
   -- each entry has its place among the variables; a row for each line, none of more than 18 entries
   pub placed : length (take (length es) p.places.of) ≡ length es
   pub counted : p.rows.count ≡ length (lines es)
   pub few_lines : p.rows.count ≤ 256
-  pub short : All (λ r. r.to - r.from ≤ 18) (take p.rows.count p.rows.rows)
+  pub short : AllByRecursion (λ r. r.to - r.from ≤ 18) (take p.rows.count p.rows.rows)
   -- where a run goes on behind each line
   pub jumps : Leads (script_of text (lines es)) p.jumps
   -- the variables are those of the var lines, which stand first, at most 16

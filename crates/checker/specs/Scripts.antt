@@ -1,6 +1,6 @@
 -- What a checked script gives to whoever runs it. Assumes nothing.
 use Rattle.std.specs.Prelude.{◌≡◌, ℕ, ◌-◌, ◌≤◌, List, length, take, Option}
-use Rattle.std.specs.List.{AllByRecursion as All}
+use Rattle.std.specs.List.{AllByRecursion}
 use Rattle.script.specs.declared.places.Place.{Place}
 use Rattle.script.specs.declared.reading.Entry.{Entry}
 use Rattle.number.specs.declared.Pair.{Pair}
@@ -59,6 +59,6 @@ pub record Laid {X : Type 0} (s : Checked X) : Type 0 where
   pub placed : length (table_in s) ≡ length (places_in s)
   -- at most 256 lines, none of more than 18 entries
   pub few : length (rows_in s) ≤ 256
-  pub short : All (λ r. r.to - r.from ≤ 18) (rows_in s)
+  pub short : AllByRecursion (λ r. r.to - r.from ≤ 18) (rows_in s)
   -- where a run goes on behind each line
   pub leads : Leads (lines_in s) (jumps_in s)

@@ -1,6 +1,6 @@
 -- The laws of what is written.
 use Rattle.std.proofs.Common.{◌≡◌, ℕ, ◌-◌, ◌*◌, ◌≤◌, true, false, leb, List, [], ◌∷◌, ◌++◌, length, take, is_some, Some, None, Option, sym, refl, ap, ◌∙◌, arith}
-use Rattle.std.specs.List.{AllByRecursion as All}
+use Rattle.std.specs.List.{AllByRecursion}
 use Rattle.std.proofs.lemmas.Fmt.{length-decimal-le}
 use Rattle.std.proofs.lemmas.List.{length-append}
 use Rattle.std.proofs.lemmas.Bool.{and_from, and_parts, le-leb, leb-true, lt-leb, cond-false, both_ways}
@@ -20,11 +20,11 @@ some_of : (o : Option Frac) → is_some o ≡ true → (q : Frac) × (o ≡ Some
 some_of (Some q) e = (q, refl)
 some_of None e = absurd (both_ways false refl e)
 
-pub meant_all : (means : Pair → Option Frac) (ps : List Pair) → all_meant means ps ≡ true → All (OfKind means) ps
+pub meant_all : (means : Pair → Option Frac) (ps : List Pair) → all_meant means ps ≡ true → AllByRecursion (OfKind means) ps
 meant_all means [] e = tt
 meant_all means (p ∷ ps) e = let h = and_parts (is_some (means p)) (all_meant means ps) e in (some_of (means p) h.0, meant_all means ps h.1)
 
-pub all_are_meant : (means : Pair → Option Frac) (ps : List Pair) → All (OfKind means) ps → all_meant means ps ≡ true
+pub all_are_meant : (means : Pair → Option Frac) (ps : List Pair) → AllByRecursion (OfKind means) ps → all_meant means ps ≡ true
 all_are_meant means [] h = refl
 all_are_meant means (p ∷ ps) h = and_from _ _ (ap is_some h.0.1) (all_are_meant means ps h.1)
 

@@ -1,7 +1,7 @@
 -- The fields of a line that is written.
 use Rattle.std.proofs.Common.{◌≡◌, ℕ, suc, ◌+◌, ◌-◌, ◌*◌, ◌<◌, ◌≤◌, Bool, true, false, cond, eqb, ltb, leb, List, [], ◌∷◌, ◌++◌, map, length, ℤ, pos, negsuc, nat_abs, decimal, sym, refl, ap, ◌∙◌, ap₂, arith, rules}
 use Rattle.std.specs.Fmt.{signed_decimal}
-use Rattle.std.specs.List.{AllByRecursion as All}
+use Rattle.std.specs.List.{AllByRecursion}
 use Rattle.std.proofs.lemmas.Fmt.{digits_decimal, digits_value-decimal}
 use Rattle.std.proofs.lemmas.List.{append_assoc, length_push}
 use Rattle.std.proofs.lemmas.Str.Parse.{IsNumeralModel, numerals_by_fold}
@@ -88,7 +88,7 @@ terms_pair q = pair_from q.num q.den
 closed_one : (fs : List Pair) (p : Pair) → length fs < 21 → closed fs p ≡ fs ++ p ∷ []
 closed_one fs p h = cond-true (ltb (length fs) 21) _ _ (lt-ltb (length fs) 21 h)
 
-fields_run : (fs : List Pair) (x : Number) (qs : List Frac) → All Small qs → length fs + length qs < 21 → scanned fs x (fields_by fraction_text qs ++ 10 ∷ []) ≡ fs ++ pair_of_number x ∷ map terms_pair qs
+fields_run : (fs : List Pair) (x : Number) (qs : List Frac) → AllByRecursion Small qs → length fs + length qs < 21 → scanned fs x (fields_by fraction_text qs ++ 10 ∷ []) ≡ fs ++ pair_of_number x ∷ map terms_pair qs
 fields_run fs x [] s h = closed_one fs (pair_of_number x) (omega arith)
 fields_run fs x (q ∷ qs) s h =
     let rest : List ℕ = fields_by fraction_text qs ++ 10 ∷ [] in

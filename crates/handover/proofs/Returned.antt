@@ -1,6 +1,6 @@
 -- The bytes that are read as a bench are the lines of benches within the bounds.
 use Rattle.std.proofs.Common.{◌≡◌, ℕ, suc, ◌-◌, ◌≤◌, Bool, true, false, cond, ◌&&◌, T, ltb, leb, List, [], ◌∷◌, ◌++◌, map, length, get_or, drop, ℤ, pos, negsuc, Some, None, Option, sym, refl, ap, ◌∙◌, subst, ap₂, arith, leb→le}
-use Rattle.std.specs.List.{AllByRecursion as All}
+use Rattle.std.specs.List.{AllByRecursion}
 use Rattle.std.specs.Str.{bytes_eq}
 use Rattle.std.proofs.lemmas.Slice.Eq.{bytes_eq-Decides}
 use Rattle.std.proofs.lemmas.List.{length-map, length-drop, length_push}
@@ -46,15 +46,15 @@ bench_back w p i =
 frac_back : (q : Frac) → Small q → frac_of (terms_pair q) ≡ Some q
 frac_back q s = fractions_held.back q (terms_pair q) (pair_some q (join_t _ _ (subst T (sym (leb_yes _ _ s.0)) tt) (subst T (sym (leb_yes _ _ s.1)) tt)))
 
-all_back : (qs : List Frac) → All Small qs → All (OfKind frac_of) (map terms_pair qs)
+all_back : (qs : List Frac) → AllByRecursion Small qs → AllByRecursion (OfKind frac_of) (map terms_pair qs)
 all_back [] s = tt
 all_back (q ∷ qs) s = ((q, frac_back q s.0), all_back qs s.1)
 
-fields_same : (qs : List Frac) → All Small qs → fields_by (λ p. meant_text (frac_of p)) (map terms_pair qs) ≡ fields_by fraction_text qs
+fields_same : (qs : List Frac) → AllByRecursion Small qs → fields_by (λ p. meant_text (frac_of p)) (map terms_pair qs) ≡ fields_by fraction_text qs
 fields_same [] s = refl
 fields_same (q ∷ qs) s = ap₂ (λ t bs. (44 ∷ t) ++ bs) (ap meant_text (frac_back q s.0)) (fields_same qs s.1)
 
-pub line_same : (w : M.Bench Frac) → All Small w.values → line_of frac_of (pairs_bench w) ≡ text_of w
+pub line_same : (w : M.Bench Frac) → AllByRecursion Small w.values → line_of frac_of (pairs_bench w) ≡ text_of w
 line_same w s = ap (λ bs. head_text w.line w.left w.total w.over ++ (bs ++ 10 ∷ [])) (fields_same w.values s)
 
 pub read_back : (w : M.Bench Frac) → Plain w → read_of (text_of w) ≡ Some (pairs_bench w)
@@ -128,7 +128,7 @@ bench_within fs b few e = by (ltb (length fs) 5) e
     by false h = counted_within fs b few h
 
 -- the fractions that these pairs mean
-fractions_from : (ps : List Pair) → All (OfKind frac_of) ps → (qs : List Frac) × (map terms_pair qs ≡ ps) × All Small qs
+fractions_from : (ps : List Pair) → AllByRecursion (OfKind frac_of) ps → (qs : List Frac) × (map terms_pair qs ≡ ps) × AllByRecursion Small qs
 fractions_from [] h = ([], refl, tt)
 fractions_from (p ∷ ps) h =
     let q : Frac = h.0.0 in

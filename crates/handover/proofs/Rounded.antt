@@ -1,7 +1,7 @@
 -- The laws of what is taken up, and the round trip.
 use Rattle.std.proofs.Common.{◌≡◌, ℕ, suc, ◌+◌, ◌⊎◌, List, [], ◌∷◌, ◌++◌, map, length, pos, Some, None, Ok, Err, Option, Result, sym, refl, ap, ◌∙◌, subst, ap₂, inl, inr, arith}
 use lib.Signed.{le_z}
-use Rattle.std.specs.List.{AllByRecursion as All}
+use Rattle.std.specs.List.{AllByRecursion}
 use Rattle.std.proofs.lemmas.Bool.{cond-true, le-leb}
 use Rattle.number.specs.declared.Pair.{Pair}
 use Rattle.number.specs.Frac.{Frac}
@@ -79,7 +79,7 @@ module _ (means : Pair → Option Frac) (code : Frac → Option Pair) (laws : Ho
       ap₂ (λ t r. if_held k t r) (taken_own q ∙ ap held e) (unheld_is (k + 1) u) ∙ ap (λ n. Err (refused ValueNotHeld 0 n)) (omega arith)
 
   -- what numbers of the kind mean is held as them
-  meanings : (ps : List Pair) → All (OfKind means) ps → (qs : List Frac) × Coded qs ps × All Small qs
+  meanings : (ps : List Pair) → AllByRecursion (OfKind means) ps → (qs : List Frac) × Coded qs ps × AllByRecursion Small qs
   meanings [] h = ([], none, tt)
   meanings (p ∷ ps) h =
       let q : Frac = h.0.0 in
@@ -87,7 +87,7 @@ module _ (means : Pair → Option Frac) (code : Frac → Option Pair) (laws : Ho
       let r = meanings ps h.1 in
       (q ∷ r.0, more e r.1, (laws.small q p e, r.2))
 
-  coded_meant : {qs : List Frac} {ps : List Pair} → Coded qs ps → All (OfKind means) ps
+  coded_meant : {qs : List Frac} {ps : List Pair} → Coded qs ps → AllByRecursion (OfKind means) ps
   coded_meant none = tt
   coded_meant {qs = q ∷ qs} {ps = p ∷ ps} (more e c) = ((q, laws.back q p e), coded_meant c)
 
@@ -133,7 +133,7 @@ module _ (means : Pair → Option Frac) (code : Frac → Option Pair) (laws : Ho
       by None e = no_line (λ f. none_some (pairs_bench f.bench) (sym e ∙ formed_read bytes f)) (ap (answered means code) e)
       by (Some b) e = let f = (read_from bytes b e).0 in of f (split f.bench.values)
 
-  written : (bytes : List ℕ) (b : M.Bench Pair) → Within b → All (OfKind means) b.values → line_of means b ≡ bytes → taken_up means code bytes ≡ Ok b
+  written : (bytes : List ℕ) (b : M.Bench Pair) → Within b → AllByRecursion (OfKind means) b.values → line_of means b ≡ bytes → taken_up means code bytes ≡ Ok b
   written bytes b i h e =
       let m = meanings b.values h in
       let w : M.Bench Frac = valued b m.0 in
@@ -141,11 +141,11 @@ module _ (means : Pair → Option Frac) (code : Frac → Option Pair) (laws : Ho
       let f : Formed bytes = record { bench = w; plain = plain; line = sym (coded_line w b.values m.1) ∙ e } in
       formed_taken bytes f (Ok b.values) (coded_is 6 m.1)
 
-  written_only : (bytes : List ℕ) → View bytes → (b : M.Bench Pair) → taken_up means code bytes ≡ Ok b → Within b × All (OfKind means) b.values × (line_of means b ≡ bytes)
+  written_only : (bytes : List ℕ) → View bytes → (b : M.Bench Pair) → taken_up means code bytes ≡ Ok b → Within b × AllByRecursion (OfKind means) b.values × (line_of means b ≡ bytes)
   written_only bytes (no_line n r) b e = absurd (ok_no_form b (sym e ∙ r))
   written_only bytes (not_all f i u r) b e = absurd (ok_unheld b i (sym e ∙ r))
   written_only bytes (all_held f ps c r) b e =
-      subst (λ (x : M.Bench Pair). Within x × All (OfKind means) x.values × (line_of means x ≡ bytes)) (ok_same (valued f.bench ps) b (sym r ∙ e))
+      subst (λ (x : M.Bench Pair). Within x × AllByRecursion (OfKind means) x.values × (line_of means x ≡ bytes)) (ok_same (valued f.bench ps) b (sym r ∙ e))
       (coded_within f.bench ps (coded_length c) f.plain.within, coded_meant c, coded_line f.bench ps c ∙ f.line)
 
   no_form_only : (bytes : List ℕ) → View bytes → taken_up means code bytes ≡ no_form → Formed bytes → ⊥

@@ -1,6 +1,6 @@
 -- What holds of the line of a bench, in the words of its format.
 use Rattle.std.specs.Prelude.{◌≡◌, ℕ, suc, ◌+◌, ◌<◌, ◌≤◌, ◌⊎◌, List, ◌∷◌, ◌++◌, length, drop, Some, None, Ok, Err, Option, Result, unsigned_abs}
-use Rattle.std.specs.List.{AllByRecursion as All}
+use Rattle.std.specs.List.{AllByRecursion}
 use Rattle.number.specs.declared.Pair.{Pair}
 use Rattle.number.specs.Frac.{Frac}
 use Rattle.motion.specs.Machine as M
@@ -19,7 +19,7 @@ OfKind means p = (q : Frac) × (means p ≡ Some q)
 -- a bench has a line in the kind: it has at most 16 values, all of them numbers of the kind
 pub record Writable (means : Pair → Option Frac) (b : Bench) : Type 0 where
   pub few : b.values.count ≤ 16
-  pub numbers : All (OfKind means) (pairs_of b.values)
+  pub numbers : AllByRecursion (OfKind means) (pairs_of b.values)
 
 -- what is written of a bench to a buffer: all of its line at the front of the buffer, or nothing at all
 pub record Writes (means : Pair → Option Frac) (b : Bench) (old : List ℕ) (r : Option ℕ) (new : List ℕ) : Type 0 where
@@ -48,7 +48,7 @@ Small q = (unsigned_abs q.num ≤ 2147483647) × (q.den ≤ 2147483647)
 -- a bench whose values are fractions is within all bounds
 pub record Plain (w : M.Bench Frac) : Type 0 where
   pub within : Within w
-  pub small : All Small w.values
+  pub small : AllByRecursion Small w.values
 
 -- these bytes have the form: they are the line of a bench within the bounds
 pub record Formed (bytes : List ℕ) : Type 0 where
@@ -79,12 +79,12 @@ pub record Takes (means : Pair → Option Frac) (code : Frac → Option Pair) (b
   pub not_held : (f : Formed bytes) (i : ℕ) → FirstUnheld code f.bench.values i → r ≡ value_unheld i
   pub not_held_only : (i : ℕ) → r ≡ value_unheld i → (f : Formed bytes) × FirstUnheld code f.bench.values i
   -- a bench exactly where the bytes are its line, it is within the bounds and all its values are numbers of the kind
-  pub written : (b : M.Bench Pair) → Within b → All (OfKind means) b.values → line_of means b ≡ bytes → r ≡ Ok b
-  pub written_only : (b : M.Bench Pair) → r ≡ Ok b → Within b × All (OfKind means) b.values × (line_of means b ≡ bytes)
+  pub written : (b : M.Bench Pair) → Within b → AllByRecursion (OfKind means) b.values → line_of means b ≡ bytes → r ≡ Ok b
+  pub written_only : (b : M.Bench Pair) → r ≡ Ok b → Within b × AllByRecursion (OfKind means) b.values × (line_of means b ≡ bytes)
   -- and nothing else
   pub no_other : (r ≡ no_form) ⊎ (((i : ℕ) × (r ≡ value_unheld i)) ⊎ ((b : M.Bench Pair) × (r ≡ Ok b)))
 
 -- what is written of a bench within the bounds is taken up as that bench, and what is taken up as a bench is what is written of it
 pub record RoundTrip (means : Pair → Option Frac) (code : Frac → Option Pair) : Type 0 where
-  pub there : (b : M.Bench Pair) → Within b → All (OfKind means) b.values → taken_up means code (line_of means b) ≡ Ok b
+  pub there : (b : M.Bench Pair) → Within b → AllByRecursion (OfKind means) b.values → taken_up means code (line_of means b) ≡ Ok b
   pub back : (bytes : List ℕ) (b : M.Bench Pair) → taken_up means code bytes ≡ Ok b → line_of means b ≡ bytes

@@ -2,7 +2,7 @@
 use Rattle.std.proofs.Common.{◌≡◌, ℕ, ◌+◌, ◌*◌, ◌<◌, ◌≤◌, Bool, true, false, not, List, [], ◌∷◌, ◌++◌, map, length, get_or, take, drop, IfOk, Some, None, Ok, Err, Option, Result, sym, refl, ap, ◌∙◌, subst, arith}
 use Rattle.std.proofs.lemmas.List.{at_drop_more, append_assoc, length-take-le}
 use Rattle.std.proofs.lemmas.Bool.Decides.{nat_tests}
-use Rattle.std.specs.List.{AllByRecursion as All, flat_map}
+use Rattle.std.specs.List.{AllByRecursion, flat_map}
 use Rattle.script.specs.declared.words.LineWord.{LineWord}
 use Rattle.script.specs.declared.words.LineWord.TheVariants.{Var, Set, Run, Rate, If, Else, While, End}
 use Rattle.script.specs.declared.reading.Entry.{Entry}
@@ -27,7 +27,7 @@ row_more text es i d out line after lt e f =
     ∙ ap (λ s. s ++ entry_lines text (drop (i + 1) es)) (ap (λ s. out ++ s) (sym e) ∙ sym f)
 
 -- the lines of entries are those of their fields
-cell_lines : (text : List ℕ) (es : List Entry) → All (λ (e : Entry). e.token ≡ token_of (bytes_at text e.place)) es → entry_lines text es ≡ flat_map cell_line (map (cell_of text) es)
+cell_lines : (text : List ℕ) (es : List Entry) → AllByRecursion (λ (e : Entry). e.token ≡ token_of (bytes_at text e.place)) es → entry_lines text es ≡ flat_map cell_line (map (cell_of text) es)
 cell_lines text [] h = refl
 cell_lines text (e ∷ es) h =
     let t : entry_line text e ≡ cell_line (cell_of text e) = rw h.0 in
@@ -68,7 +68,7 @@ few_by : (r : Row) (l : Option LineWord) → is_none l ≡ false → of_word l (
 few_by r (Some w) a b = suits_few w (width r) (not_false (count_suits w (width r)) b)
 few_by r None a b = let z : ◌≡◌ {A = ℕ} 0 1 = cc in absurd (omega arith)
 
-few_fields : (rs : List Row) → All Right rs → fields_in rs ≤ 18 * length rs
+few_fields : (rs : List Row) → AllByRecursion Right rs → fields_in rs ≤ 18 * length rs
 few_fields [] h = omega arith
 few_fields (r ∷ rs) h =
     let k = few_by r (line_word (first r)) h.0.begun h.0.counted in

@@ -4,7 +4,7 @@ use lib.Signed.{le_z, non_neg}
 use Rattle.std.proofs.lemmas.List.{length-map, drop-map, get_or-map, get_or_past, take_all, length-take}
 use Rattle.std.proofs.lemmas.Int.{to_z-of_z}
 use Rattle.std.proofs.lemmas.Bool.{lt-ltb, le-ltb}
-use Rattle.std.specs.List.{AllByRecursion as All}
+use Rattle.std.specs.List.{AllByRecursion}
 use Rattle.script.specs.declared.reading.Entry.{Entry}
 use Rattle.number.specs.declared.Pair.{Pair}
 use Rattle.number.specs.declared.Fault.{Fault}
@@ -36,7 +36,7 @@ module _ (es : List Entry) (xs : List ℕ) (rows : List Row) where
   rates_behind ys n e = ap (λ (zs : List Row). rates (rows_lines es xs zs)) e ∙ ap rates (sym (drop-map (row_line es xs) n rows))
 
 -- each of a list
-pub all_at : {X : Type 0} (P : X → Type 0) (xs : List X) (i : ℕ) (d : X) → All P xs → i < length xs → P (get_or xs i d)
+pub all_at : {X : Type 0} (P : X → Type 0) (xs : List X) (i : ℕ) (d : X) → AllByRecursion P xs → i < length xs → P (get_or xs i d)
 all_at P [] i d h k = absurd (omega arith)
 all_at P (x ∷ xs) zero d h k = h.0
 all_at P (x ∷ xs) (suc i) d h k = all_at P xs i d h.1 (omega arith)

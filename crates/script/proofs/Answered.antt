@@ -1,7 +1,7 @@
 -- What follows of a reading from its answer. Assumes nothing.
 use Rattle.std.proofs.Common.{◌≡◌, ℕ, false, List, [], ◌∷◌, map, length, take, drop, IfOk, Ok, Err, Result, sym, refl, ap, ◌∙◌, subst, MatchResult}
 use Rattle.std.proofs.lemmas.List.{length-map, take_at}
-use Rattle.std.specs.List.{AllByRecursion as All}
+use Rattle.std.specs.List.{AllByRecursion}
 use Rattle.script.specs.declared.places.Place.{Place}
 use Rattle.script.specs.declared.reading.Entry.{Entry}
 use Rattle.script.specs.declared.reading.Draft.{Draft}
@@ -25,7 +25,7 @@ entry_cells : (text : List ℕ) (ps : List Place) → map (cell_of text) (map (e
 entry_cells text [] = refl
 entry_cells text (p ∷ ps) = ap (λ cs. cell_at text p ∷ cs) (entry_cells text ps)
 
-entry_tokens : (text : List ℕ) (ps : List Place) → All (λ (e : Entry). e.token ≡ token_of (bytes_at text e.place)) (map (entry_of text) ps)
+entry_tokens : (text : List ℕ) (ps : List Place) → AllByRecursion (λ (e : Entry). e.token ≡ token_of (bytes_at text e.place)) (map (entry_of text) ps)
 entry_tokens text [] = tt
 entry_tokens text (p ∷ ps) = (refl, entry_tokens text ps)
 

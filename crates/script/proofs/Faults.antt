@@ -1,6 +1,6 @@
 -- A line is in order, or its first fault is told. Assumes nothing.
 use Rattle.std.proofs.Common.{◌≡◌, ℕ, ◌+◌, Bool, true, false, not, ◌&&◌, List, [], ◌∷◌, ◌++◌, length, Some, None, Ok, Err, Option, sym, refl, ap, ◌∙◌, arith}
-use Rattle.std.specs.List.{AllByRecursion as All}
+use Rattle.std.specs.List.{AllByRecursion}
 use Rattle.script.specs.declared.words.LineWord.{LineWord}
 use Rattle.script.specs.declared.refusals.Refusal.{Refusal}
 use Rattle.script.specs.declared.refusals.Reason.TheVariants.{NoLineWord, FieldCount, FieldForm}
@@ -114,11 +114,11 @@ judge line r = judge_word line r (line_word (first r)) refl
 
 -- lines in a row --------------------------------------------------------------------
 
-pub all_right_is : (line : ℕ) (rs : List Row) → All Right rs → rows_check line rs ≡ Ok tt
+pub all_right_is : (line : ℕ) (rs : List Row) → AllByRecursion Right rs → rows_check line rs ≡ Ok tt
 all_right_is line [] h = refl
 all_right_is line (r ∷ rs) h = ap (λ x. and_then x (λ _. rows_check (line + 1) rs)) (right_is line r h.0) ∙ all_right_is (line + 1) rs h.1
 
-pub fault_in : (line m : ℕ) (before : List Row) (r : Row) (after : List Row) (e : Refusal) → m ≡ length before + line → All Right before → Fault m r e → rows_check line (before ++ r ∷ after) ≡ Err e
+pub fault_in : (line m : ℕ) (before : List Row) (r : Row) (after : List Row) (e : Refusal) → m ≡ length before + line → AllByRecursion Right before → Fault m r e → rows_check line (before ++ r ∷ after) ≡ Err e
 fault_in line m [] r after e n h a =
     let d : m ≡ line = omega arith in
     ap (λ x. and_then x (λ _. rows_check (line + 1) after)) (ap (λ k. row_check k r) (sym d) ∙ fault_is m r e a)
@@ -127,8 +127,8 @@ fault_in line m (q ∷ qs) r after e n h a =
 
 -- all lines are in order, or there is a first that is not
 pub data GoneThrough (line : ℕ) (rs : List Row) : Type 0 where
-  clear : All Right rs → GoneThrough line rs
-  broken : (m : ℕ) (before : List Row) (r : Row) (after : List Row) (e : Refusal) → m ≡ length before + line → rs ≡ before ++ r ∷ after → All Right before → Fault m r e → GoneThrough line rs
+  clear : AllByRecursion Right rs → GoneThrough line rs
+  broken : (m : ℕ) (before : List Row) (r : Row) (after : List Row) (e : Refusal) → m ≡ length before + line → rs ≡ before ++ r ∷ after → AllByRecursion Right before → Fault m r e → GoneThrough line rs
 
 onto : (line : ℕ) (r : Row) (rs : List Row) → Right r → GoneThrough (line + 1) rs → GoneThrough line (r ∷ rs)
 onto line r rs h (clear a) = clear (h, a)

@@ -1,6 +1,6 @@
 -- The answer is what the rules of acceptance and refusal say. Assumes nothing.
 use Rattle.std.proofs.Common.{◌≡◌, ℕ, ◌+◌, Bool, true, false, cond, ◌&&◌, ltb, nat_lt, List, length, Some, None, Ok, Err, Result, sym, refl, ap, ◌∙◌, subst, arith}
-use Rattle.std.specs.List.{AllByRecursion as All}
+use Rattle.std.specs.List.{AllByRecursion}
 use Rattle.std.proofs.lemmas.Bool.{cond-false}
 use Rattle.std.proofs.lemmas.Bool.Decides.{nat_tests}
 use Rattle.script.specs.declared.refusals.Refusal.{Refusal}
@@ -31,7 +31,7 @@ module _ (text : List ℕ) (room : ℕ) where
   after_whole : Whole text → read_of text room ≡ and_then (rows_check 1 (rows text)) (λ _. table_check room (feeds text) (fields_in (rows text)))
   after_whole w = ap (λ r. and_then r (λ lines. and_then (rows_check 1 (rows text)) (λ _. table_check room lines (fields_in (rows text))))) (whole_is w)
 
-  after_lines : Whole text → All Right (rows text) → read_of text room ≡ table_check room (feeds text) (fields_in (rows text))
+  after_lines : Whole text → AllByRecursion Right (rows text) → read_of text room ≡ table_check room (feeds text) (fields_in (rows text))
   after_lines w h = after_whole w ∙ ap (λ r. and_then r (λ _. table_check room (feeds text) (fields_in (rows text)))) (all_right_is 1 (rows text) h)
 
   pub refused_is : (e : Refusal) → Refused text room e → read_of text room ≡ Err e
@@ -62,7 +62,7 @@ module _ (text : List ℕ) (room : ℕ) where
     no : (e : Refusal) → Refused text room e → Decided
     yes : (lines fields : ℕ) → Accepted text room lines fields → Decided
 
-  by_room : (t : Bool) → ltb room (fields_in (rows text)) ≡ t → Whole text → All Right (rows text) → Decided
+  by_room : (t : Bool) → ltb room (fields_in (rows text)) ≡ t → Whole text → AllByRecursion Right (rows text) → Decided
   by_room true h w a = no _ (table_too_short w a (grind (arith, nat_tests)))
   by_room false h w a = yes (length (rows text)) (fields_in (rows text)) (record { whole = w; right = a; fits = grind (arith, nat_tests); all_lines = refl; all_fields = refl })
 

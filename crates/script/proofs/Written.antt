@@ -3,7 +3,7 @@ use Rattle.std.proofs.Common.{◌≡◌, ℕ, suc, ◌+◌, ◌≤◌, Bool, tru
 use Rattle.std.proofs.lemmas.List.{take_at, drop_at, append-nil, append_assoc, length-append, length_push}
 use Rattle.std.proofs.lemmas.Bool.Decides.{nat_tests}
 use Rattle.std.proofs.ByRecursion.{Decides-by_and}
-use Rattle.std.specs.List.{AllByRecursion as All}
+use Rattle.std.specs.List.{AllByRecursion}
 use Rattle.script.specs.declared.numbers.Number.{Number}
 use Rattle.script.specs.Numbers.{digit, most, digit_run, before_slash, over, fraction, number_of, all_digits, run_value}
 use Rattle.script.specs.Numerals.{Digit, Digits, Quotient, whole, parted, number, Numeral, plain, negative, Written, NumeralsRead, NumeralsShown, NumeralsRefused}
@@ -18,7 +18,7 @@ bad_front bs = eqb (length bs) 0 || (ltb 1 (length bs) && eqb (get_or bs 0 0) 48
 digit_decides : (b : ℕ) → Decides (digit b) (Digit b)
 digit_decides b = (λ h. (grind (arith, nat_tests), grind (arith, nat_tests)), λ h. grind (arith, nat_tests))
 
-digits_decide : (bs : List ℕ) → Decides (all_digits bs) (All Digit bs)
+digits_decide : (bs : List ℕ) → Decides (all_digits bs) (AllByRecursion Digit bs)
 digits_decide bs = Decides-by_and digit Digit all_digits digit_decides refl (λ _ _. refl) bs
 
 -- the four tests of a run that gives a value
@@ -84,7 +84,7 @@ slash_parts (b ∷ bs) h =
     one_byte b bs (before_slash bs) (eqb b 47) refl (λ e. slash_parts bs (λ k. h (rw e (omega (arith, k)))))
 
 -- no slash stands among digits
-slash_after : (ts bs : List ℕ) → All Digit ts → before_slash (ts ++ bs) ≡ length ts + before_slash bs
+slash_after : (ts bs : List ℕ) → AllByRecursion Digit ts → before_slash (ts ++ bs) ≡ length ts + before_slash bs
 slash_after [] bs h = omega arith
 slash_after (a ∷ ts) bs h =
     let p = slash_after ts bs h.1 in
@@ -92,7 +92,7 @@ slash_after (a ∷ ts) bs h =
     let e : eqb a 47 ≡ false = grind (arith, nat_tests) in
     rw e (omega arith)
 
-no_slash : (bs : List ℕ) → All Digit bs → before_slash bs ≡ length bs
+no_slash : (bs : List ℕ) → AllByRecursion Digit bs → before_slash bs ≡ length bs
 no_slash bs h = let p = ap before_slash (sym (append-nil bs)) ∙ slash_after bs [] h in omega arith
 
 -- the two parts ---------------------------------------------------------------------

@@ -1,6 +1,6 @@
 -- Which texts are accepted, and with what the others are refused, in the words of the format. Assumes nothing.
 use Rattle.std.specs.Prelude.{◌≡◌, ℕ, ◌+◌, ◌<◌, ◌≤◌, Bool, true, false, cond, not, ◌&&◌, List, [], ◌∷◌, ◌++◌, map, length, Some, None, Ok, Err, Option, Result, ◌==◌, nat_lt}
-use Rattle.std.specs.List.{AllByRecursion as All}
+use Rattle.std.specs.List.{AllByRecursion}
 use Rattle.script.specs.declared.words.LineWord.{LineWord}
 use Rattle.script.specs.declared.reading.Entry.{Entry}
 use Rattle.script.specs.declared.refusals.Refusal.{Refusal}
@@ -87,13 +87,13 @@ pub data Refused (text : List ℕ) (room : ℕ) : Refusal → Type 0 where
   no_line_feed : too_long text ≡ false → unended text ≡ true → Refused text room (refused NoLineFeedAtEnd (feeds text + 1) 0)
   stray_byte : too_long text ≡ false → unended text ≡ false → (before : List ℕ) (b : ℕ) (after : List ℕ) → text ≡ before ++ b ∷ after → all_allowed before ≡ true → allowed b ≡ false → Refused text room (refused StrayByte (feeds before + 1) (commas_after 0 before + 1))
   many_lines : too_long text ≡ false → unended text ≡ false → all_allowed text ≡ true → too_many_lines text ≡ true → Refused text room (refused TooManyLines 257 0)
-  bad_line : Whole text → (before : List Row) (r : Row) (after : List Row) (e : Refusal) → rows text ≡ before ++ r ∷ after → All Right before → Fault (length before + 1) r e → Refused text room e
-  table_too_short : Whole text → All Right (rows text) → room < fields_in (rows text) → Refused text room (refused TableTooShort 0 0)
+  bad_line : Whole text → (before : List Row) (r : Row) (after : List Row) (e : Refusal) → rows text ≡ before ++ r ∷ after → AllByRecursion Right before → Fault (length before + 1) r e → Refused text room e
+  table_too_short : Whole text → AllByRecursion Right (rows text) → room < fields_in (rows text) → Refused text room (refused TableTooShort 0 0)
 
 -- A text is accepted where none of the conditions holds.
 pub record Accepted (text : List ℕ) (room lines fields : ℕ) : Type 0 where
   pub whole : Whole text
-  pub right : All Right (rows text)
+  pub right : AllByRecursion Right (rows text)
   pub fits : fields_in (rows text) ≤ room
   pub all_lines : lines ≡ length (rows text)
   pub all_fields : fields ≡ fields_in (rows text)
@@ -118,4 +118,4 @@ cell_of text e = cell e.place.line e.place.field (bytes_at text e.place)
 -- and each says what its bytes are.
 pub record Entered (text : List ℕ) (es : List Entry) : Type 0 where
   pub fields : map (cell_of text) es ≡ cells 1 (rows text)
-  pub tokens : All (λ e. e.token ≡ token_of (bytes_at text e.place)) es
+  pub tokens : AllByRecursion (λ e. e.token ≡ token_of (bytes_at text e.place)) es

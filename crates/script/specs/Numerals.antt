@@ -1,6 +1,6 @@
 -- Which bytes write a number, and which number, in the words of the format. Assumes nothing.
 use Rattle.std.specs.Prelude.{◌≡◌, ℕ, ◌≤◌, Bool, true, false, List, [], ◌∷◌, ◌++◌, length, Some, codes, Option}
-use Rattle.std.specs.List.{AllByRecursion as All}
+use Rattle.std.specs.List.{AllByRecursion}
 use Rattle.script.specs.declared.numbers.Number.{Number}
 use Rattle.script.specs.Numbers.{most, run_value, number_of}
 
@@ -12,7 +12,7 @@ Digit b = (48 ≤ b) × (b ≤ 57)
 -- and no value above the largest.
 pub record Digits (bs : List ℕ) (n : ℕ) : Type 0 where
   pub some : 1 ≤ length bs
-  pub digits : All Digit bs
+  pub digits : AllByRecursion Digit bs
   pub zero_alone : (rest : List ℕ) → bs ≡ 48 ∷ rest → rest ≡ []
   pub value : run_value 0 bs ≡ n
   pub small : n ≤ most

@@ -1,5 +1,5 @@
 use Rattle.std.proofs.Common.{◌≤◌, List, length, take, Ok, Err, sym, ap, ◌∙◌, subst, rules}
-use Rattle.std.specs.List.{AllByRecursion as All}
+use Rattle.std.specs.List.{AllByRecursion}
 use Rattle.script.specs.declared.reading.Entry.{Entry}
 use Rattle.script.specs.Checks.{is_in_order}
 use Rattle.entries.specs.Fields.{lines}
@@ -22,7 +22,7 @@ returns-in-Ok g c =
       answer = search rules;
       judged = judged g.K.Kind.means g.K.Kind.code c.args.draft.text.now c.args.draft.fields c.args.table.now (Ok tt) (search rules);
       good = good g.K.Kind.means g.K.Kind.code text (take c.fields-fields.result c.args.table.now) c.in-Ok.plan c.in-Ok.ensures.plan c.in-Ok.ensures.passed own;
-      found = found g.K.Kind.means g.K.Kind.code text (take c.fields-fields.result c.args.table.now) c.in-Ok.plan c.in-Ok.ensures.plan c.in-Ok.ensures.passed c.in-Ok.ensures.ready (subst (λ (es : List Entry). All (λ l. length l ≤ 18) (lines es)) (sym own) (lines_short text order));
+      found = found g.K.Kind.means g.K.Kind.code text (take c.fields-fields.result c.args.table.now) c.in-Ok.plan c.in-Ok.ensures.plan c.in-Ok.ensures.passed c.in-Ok.ensures.ready (subst (λ (es : List Entry). AllByRecursion (λ l. length l ≤ 18) (lines es)) (sym own) (lines_short text order));
       script = search rules;
     }
 
