@@ -309,7 +309,7 @@ fn entries(rt: HostRuntime) -> Result<(), Fail> {
     let last = table[10];
     assert_eq!(rt; last.place.line, 3);
     assert_eq!(rt; last.place.field, 4);
-    assert_eq!(rt; last.place.bytes(text), b"one");
+    assert_eq!(rt; last.place.bytes(text), b"one".as_slice());
     assert_eq!(rt; letter(last.token), '1');
     assert_eq!(rt; letter(table[6].token), 'o');
     assert_eq!(rt; letter(table[4].token), 'n');
