@@ -1,7 +1,7 @@
 #!/usr/bin/env python3
 """Works out the tables of crates/number_cases by Python's own fractions, and writes them.
 
-    python3 tools/second_cases.py && rt fmt
+    python3 tools/second_cases.py && (cd crates/number_cases && rt fmt)
 """
 from fractions import Fraction as F
 from pathlib import Path
