@@ -1,10 +1,8 @@
 -- What the calls of the layers below answer, as the calls of the bench tell it. Assumes nothing.
-use Rattle.std.proofs.Common.{◌≡◌, ℕ, zero, suc, ◌+◌, ◌<◌, ◌≤◌, Bool, true, false, cond, ◌&&◌, leb, ◌↔◌, List, [], ◌∷◌, ◌++◌, length, take, drop, ℤ, pos, Some, None, Ok, Err, Option, Result, sym, refl, ap, ◌∙◌, subst, arith}
+use Rattle.std.proofs.Common.{◌≡◌, ℕ, ◌≤◌, Bool, true, false, cond, ◌&&◌, leb, List, [], ◌∷◌, ◌++◌, length, take, drop, ℤ, pos, Some, None, Ok, Err, Option, Result, sym, refl, ap, ◌∙◌, subst, arith}
 use Rattle.std.proofs.lemmas.Bool.Decides.{nat_tests}
-use Rattle.std.specs.List.{AllByRecursion}
 use Rattle.number.specs.declared.Pair.{Pair}
 use Rattle.number.specs.declared.Fault.{Fault}
-use Rattle.number.specs.declared.Fault.TheVariants.{NotHeld}
 use Rattle.number.specs.Frac.{Frac}
 use Rattle.number.specs.Kind.{Holds, of_one}
 use Rattle.motion.specs.Lines.{Line}
@@ -17,17 +15,17 @@ use Rattle.motion.specs.Rules.{Standing}
 use Rattle.motion.specs.Fitting as F
 use Rattle.record.specs.declared.Bench.{Bench}
 use Rattle.record.specs.declared.Refusal.{Refusal}
-use Rattle.record.specs.declared.Reason.TheVariants.{NameNotDeclared, BufferTooShort}
+use Rattle.record.specs.declared.Reason.TheVariants.{BufferTooShort}
 use Rattle.record.specs.Refusals.{refused}
-use Rattle.record.specs.Benches.{pairs_of, bench_of}
+use Rattle.record.specs.Benches.{bench_of}
 use Rattle.handover.specs.Lines.{line_of, copied}
 use Rattle.handover.specs.Takes.{taken_up}
-use Rattle.handover.specs.Laws.{Writable, Writes, Within, OfKind}
+use Rattle.handover.specs.Laws.{Writable, Writes}
 use Rattle.handover.proofs.Rounded.{takes, round_trip}
 use Rattle.handover.proofs.Lawful.{short_lines}
 use Rattle.bench.specs.Calls.{fitting, unfit, value_in_terms, read_value, read_variable, written, settled}
 use Rattle.bench.specs.Laws.{OnCurve, ReadsCurve, WrittenBack, TakenExactly}
-use Rattle.bench.proofs.Fitted.{both, fits_within, fits_written}
+use Rattle.bench.proofs.Fitted.{fits_within, fits_written}
 
 -- the terms that a kind answers
 pub terms_read : (o : Option Frac) (p : ℤ × ℤ) → ◌≡◌ {A = Result (ℤ × ℤ) Fault} (Ok p) (of_one (λ x. Ok (x.num, pos x.den)) o) → Ok p ≡ value_in_terms o

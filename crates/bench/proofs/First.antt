@@ -1,5 +1,5 @@
 -- The var lines that stand first in a script, and their values. Assumes nothing.
-use Rattle.std.proofs.Common.{◌≡◌, ℕ, zero, suc, ◌+◌, ◌-◌, ◌<◌, ◌≤◌, Bool, true, false, cond, List, [], ◌∷◌, map, length, take, drop, ℤ, pos, nat_abs, Some, None, Ok, Err, Option, Result, sym, refl, ap, ◌∙◌, subst, arith}
+use Rattle.std.proofs.Common.{◌≡◌, ℕ, zero, suc, ◌+◌, ◌-◌, ◌≤◌, Bool, true, false, cond, List, [], ◌∷◌, map, length, take, drop, pos, Some, None, Err, Option, sym, refl, ap, ◌∙◌, subst, arith}
 use lib.Signed.{le_z}
 use Rattle.std.specs.List.{AllByRecursion}
 use Rattle.std.proofs.lemmas.List.{length-map, length-take-le}
@@ -10,16 +10,15 @@ use Rattle.script.specs.declared.tokens.Token.TheVariants as token
 use Rattle.script.specs.declared.numbers.Number.{Number}
 use Rattle.script.specs.declared.reading.Entry.{Entry}
 use Rattle.number.specs.declared.Pair.{Pair}
-use Rattle.number.specs.declared.Fault.{Fault}
 use Rattle.number.specs.declared.Fault.TheVariants.{NotHeld}
 use Rattle.number.specs.Frac.{Frac, norm, whole}
-use Rattle.number.specs.Kind.{Holds, held, taken}
+use Rattle.number.specs.Kind.{Holds, held}
 use Rattle.motion.specs.Lines.{Line, var_line, set_line, run_line, rate_line, if_line, else_line, while_line, end_line}
 use Rattle.motion.specs.NextLine.{first_line, declared}
 use Rattle.motion.specs.Carriers.{Each, nil, cons}
 use Rattle.motion.specs.Pairs.{Meant}
 use Rattle.entries.specs.declared.rows.Row.{Row}
-use Rattle.entries.specs.Fields.{signed, not_held, pair_of_number, is_err}
+use Rattle.entries.specs.Fields.{not_held, is_err}
 use Rattle.entries.specs.Decoding.{frac_of_number, coefficient_of, value_of, part, line_by, row_line, rows_lines}
 use Rattle.checker.specs.declared.checking.Checked.{Checked}
 use Rattle.checker.specs.Scripts.{table_in, places_in, rows_in, lines_in, Sound}

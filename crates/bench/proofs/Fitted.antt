@@ -1,17 +1,16 @@
 -- What a bench has that fits a script. Assumes nothing.
-use Rattle.std.proofs.Common.{◌≡◌, ℕ, zero, suc, ◌+◌, ◌<◌, ◌≤◌, Bool, true, false, ◌&&◌, ◌||◌, eqb, leb, List, [], ◌∷◌, length, get_or, Some, None, Option, sym, refl, ap, ◌∙◌, subst, arith}
-use Rattle.std.proofs.lemmas.List.{get_or_past}
+use Rattle.std.proofs.Common.{◌≡◌, ℕ, zero, suc, ◌≤◌, Bool, true, false, ◌&&◌, ◌||◌, eqb, leb, List, [], ◌∷◌, length, Some, None, Option, refl, arith}
 use Rattle.std.proofs.lemmas.Bool.Decides.{nat_tests}
 use Rattle.std.specs.List.{AllByRecursion}
 use Rattle.number.specs.declared.Pair.{Pair}
 use Rattle.number.specs.Frac.{Frac}
-use Rattle.motion.specs.Lines.{Line, end_line}
+use Rattle.motion.specs.Lines.{Line}
 use Rattle.motion.specs.NextLine.{line_at, first_line, declared}
 use Rattle.motion.specs.Machine as M
 use Rattle.motion.specs.Pairs.{numbers_of}
 use Rattle.motion.specs.Fitting as F
 use Rattle.record.specs.declared.Bench.{Bench}
-use Rattle.record.specs.Benches.{pairs_of, bench_of}
+use Rattle.record.specs.Benches.{bench_of}
 use Rattle.handover.specs.Laws.{OfKind, Writable, Within}
 use Rattle.bench.specs.Calls.{placed, fitting}
 use Rattle.bench.proofs.First.{first_behind, declared_few}

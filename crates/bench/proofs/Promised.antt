@@ -1,5 +1,5 @@
 -- The law of an advance, as it is called. Assumes nothing.
-use Rattle.std.proofs.Common.{◌≡◌, ℕ, ◌+◌, ◌≤◌, Bool, true, false, cond, List, Option, sym, refl, ap, ◌∙◌, subst, arith}
+use Rattle.std.proofs.Common.{◌≡◌, ℕ, Bool, true, false, cond, List, Option, sym, refl, subst, arith}
 use Rattle.number.specs.declared.Pair.{Pair}
 use Rattle.number.specs.Frac.{Frac}
 use Rattle.number.specs.Kind.{Holds}
@@ -23,7 +23,7 @@ use Rattle.checker.specs.declared.checking.Checked.{Checked}
 use Rattle.checker.specs.Scripts.{lines_in, Sound}
 use Rattle.bench.specs.Built.{first_values}
 use Rattle.bench.specs.Calls.{fitting, advanced}
-use Rattle.bench.specs.Laws.{Stood, AdvancesOnCurve, AdvanceTold, not_fitting, fits, Lasts}
+use Rattle.bench.specs.Laws.{AdvancesOnCurve, AdvanceTold, not_fitting, fits, Lasts}
 use Rattle.bench.proofs.First.{values_held}
 
 taken_not : {k o : ℕ} {c : M.Bench Pair} → ◌≡◌ {A = Answer Pair} (refused 18 0 0) (accepted k o c) → ⊥

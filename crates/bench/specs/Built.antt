@@ -1,5 +1,5 @@
 -- A new bench. Assumes nothing.
-use Rattle.std.specs.Prelude.{ℕ, List, map, pos, Some, None, Option}
+use Rattle.std.specs.Prelude.{List, map, pos, Some, None, Option}
 use Rattle.script.specs.declared.reading.Entry.{Entry}
 use Rattle.number.specs.declared.Pair.{Pair}
 use Rattle.number.specs.Frac.{Frac}

@@ -1,5 +1,5 @@
 -- What each call answers, and what bench and buffer hold then. Assumes nothing.
-use Rattle.std.specs.Prelude.{◌≡◌, ℕ, Bool, true, false, cond, ◌&&◌, ◌||◌, List, ◌++◌, length, ℤ, pos, Some, None, Ok, Err, Option, Result, ◌==◌, nat_le, nat_lt}
+use Rattle.std.specs.Prelude.{◌≡◌, ℕ, Bool, true, false, cond, ◌&&◌, ◌||◌, List, length, ℤ, pos, Some, None, Ok, Err, Option, Result, ◌==◌, nat_le, nat_lt}
 use Rattle.script.specs.declared.words.LineWord.{LineWord}
 use Rattle.script.specs.declared.words.LineWord.TheVariants as w
 use Rattle.number.specs.declared.Pair.{Pair}
@@ -15,8 +15,6 @@ use Rattle.record.specs.declared.Refusal.{Refusal}
 use Rattle.record.specs.declared.Reason.TheVariants.{NotFitting, NameNotDeclared, BufferTooShort}
 use Rattle.record.specs.Refusals.{number_of, refused}
 use Rattle.record.specs.Benches.{pairs_of, bench_of}
-use Rattle.handover.specs.Lines.{line_of, copied}
-use Rattle.handover.specs.Takes.{taken_up}
 
 -- the word run
 abbrev pub run_by : LineWord → Bool

@@ -1,8 +1,7 @@
 -- The promises of the bench, call by call. Assumes nothing.
-use Rattle.std.specs.Prelude.{◌≡◌, ℕ, ◌+◌, ◌<◌, ◌≤◌, Bool, true, false, ◌↔◌, List, length, take, ℤ, pos, Some, None, Ok, Err, Option, Result}
+use Rattle.std.specs.Prelude.{◌≡◌, ℕ, ◌+◌, ◌<◌, ◌≤◌, true, false, ◌↔◌, List, take, ℤ, pos, Some, None, Ok, Err, Option, Result}
 use Rattle.number.specs.declared.Pair.{Pair}
 use Rattle.number.specs.Frac.{Frac}
-use Rattle.motion.specs.Numbers.{Numbers}
 use Rattle.motion.specs.Lines.{Line}
 use Rattle.motion.specs.Items.{nth}
 use Rattle.motion.specs.Machine.{Answer, accepted, refused}

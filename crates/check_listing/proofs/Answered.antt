@@ -1,9 +1,8 @@
 -- The answer for a script that passed. Assumes nothing.
-use Rattle.std.proofs.Common.{◌≡◌, ℕ, List, length, take, Ok, Option, Result, sym, ap, ◌∙◌}
+use Rattle.std.proofs.Common.{◌≡◌, ℕ, List, length, take, Ok, Option, sym, ap, ◌∙◌}
 use Rattle.script.specs.declared.reading.Entry.{Entry}
 use Rattle.number.specs.declared.Pair.{Pair}
 use Rattle.number.specs.Frac.{Frac}
-use Rattle.checker.specs.declared.refusals.Refusal.{Refusal}
 use Rattle.checker.specs.declared.lines.Past.{Past}
 use Rattle.entries.specs.Fields.{lines}
 use Rattle.checker.specs.Conditions.{lines_check, at_first}

@@ -1,6 +1,5 @@
 -- What the program `checked` prints of a text. Assumes nothing.
 use Rattle.std.specs.Prelude.{ℕ, List, ◌++◌, replicate, Ok, Err, codes, decimal, Option, Result}
-use Rattle.script.specs.declared.places.Place.{Place}
 use Rattle.script.specs.declared.tokens.Token.TheVariants.{Other}
 use Rattle.script.specs.declared.reading.Entry.{Entry}
 use Rattle.script.specs.declared.refusals.Refusal.{Refusal}

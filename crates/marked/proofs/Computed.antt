@@ -7,7 +7,7 @@ use Rattle.number.specs.Lowest.{lowest}
 use Rattle.number.specs.Frac.{Frac, naught, norm, whole}
 use Rattle.kinds.specs.Fractions.{made, frac_of, pair_of}
 use Rattle.kinds.specs.Thousandths.{thousand_of, counted, count_of}
-use Rattle.script.specs.Reading.{read_of, entries}
+use Rattle.script.specs.Reading.{entries}
 use Rattle.motion.specs.Lines.{Line}
 use Rattle.motion.specs.NextLine.{declared}
 use Rattle.motion.specs.Pairs.{numbers_of}

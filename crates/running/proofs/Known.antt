@@ -1,10 +1,10 @@
 -- The faults of items, and of a step, have numbers that are reasons. Assumes nothing.
-use Rattle.std.proofs.Common.{◌≡◌, ℕ, suc, Bool, true, false, List, [], ◌∷◌, Some, None, Ok, Err, Option, Result, sym, refl, ap, ◌∙◌, arith}
+use Rattle.std.proofs.Common.{◌≡◌, ℕ, suc, Bool, List, [], ◌∷◌, Some, None, Ok, Err, Option, Result, sym, refl, ap, ◌∙◌, arith}
 use Rattle.number.specs.declared.Pair.{Pair}
 use Rattle.motion.specs.Numbers.{Numbers, Divided, quot, by_zero, not_held}
 use Rattle.motion.specs.Lines.{Line, Item, number, name, calculate, combine, negate, Calculation, add, sub, mul, div, lt, le}
 use Rattle.motion.specs.Items.{Got, good, bad, bind, Value, num, truth, nth, number_at, quotient_at, truth_at, two_numbers, two_truths, one_truth, wait, calculated, item, items, as_number, as_truth, number_of, truth_of}
-use Rattle.motion.specs.Machine.{Stepped, fail, assigned, started, chosen}
+use Rattle.motion.specs.Machine.{fail, assigned, started, chosen}
 use Rattle.record.specs.declared.Refusal.{Refusal}
 use Rattle.record.specs.Refusals as R
 use Rattle.postfix.specs.Located.{located}

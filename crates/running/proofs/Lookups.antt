@@ -1,5 +1,5 @@
 -- The lines of a script by its rows, and where a run goes on. Assumes nothing.
-use Rattle.std.proofs.Common.{◌≡◌, ℕ, zero, suc, ◌+◌, ◌-◌, ◌<◌, ◌≤◌, min, Bool, true, false, T, ltb, List, [], ◌∷◌, map, length, get_or, take, drop, set, ℤ, pos, negsuc, nat_abs, Some, None, Ok, Err, Option, Result, sym, refl, ap, ◌∙◌, subst, arith, length-drop, drop_of_length-le, w32, w64, Fits, SFits, to_z, of_z}
+use Rattle.std.proofs.Common.{◌≡◌, ℕ, zero, suc, ◌+◌, ◌-◌, ◌<◌, ◌≤◌, min, true, T, List, [], ◌∷◌, length, get_or, take, drop, set, ℤ, pos, negsuc, nat_abs, Some, None, Ok, Option, Result, sym, refl, ap, ◌∙◌, subst, arith, length-drop, drop_of_length-le, w32, w64, Fits, SFits, to_z, of_z}
 use lib.Signed.{le_z, non_neg}
 use Rattle.std.proofs.lemmas.List.{length-map, drop-map, get_or-map, get_or_past, take_all, length-take}
 use Rattle.std.proofs.lemmas.Int.{to_z-of_z}
@@ -12,7 +12,7 @@ use Rattle.number.specs.Frac.{Frac}
 use Rattle.number.specs.Kind.{Holds, in_terms, of_one}
 use Rattle.motion.specs.Lines.{Line, end_line}
 use Rattle.motion.specs.NextLine.{line_at, onward, rates}
-use Rattle.motion.specs.Machine.{Place, at, ended, place_at}
+use Rattle.motion.specs.Machine.{at, ended, place_at}
 use Rattle.entries.specs.declared.rows.Row.{Row}
 use Rattle.entries.specs.Decoding.{part, row_line, rows_lines}
 

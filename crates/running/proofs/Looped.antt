@@ -1,9 +1,9 @@
 -- One turn of a run. Assumes nothing.
-use Rattle.std.proofs.Common.{◌≡◌, ℕ, zero, suc, ◌+◌, ◌-◌, ◌<◌, ◌≤◌, Bool, true, false, List, [], ◌∷◌, sym, refl, ap, ◌∙◌, arith}
+use Rattle.std.proofs.Common.{◌≡◌, ℕ, zero, suc, ◌+◌, ◌-◌, ◌<◌, true, false, List, sym, refl, ap, ◌∙◌, arith}
 use Rattle.number.specs.declared.Pair.{Pair}
 use Rattle.motion.specs.Numbers.{Numbers}
 use Rattle.motion.specs.Lines.{Line}
-use Rattle.motion.specs.Machine.{Place, at, inside, ended, Stepped, go, stop, fail, Answer, accepted, refused, loop, after, place_at}
+use Rattle.motion.specs.Machine.{Place, at, inside, ended, Stepped, go, stop, fail, accepted, refused, loop, after, place_at}
 use Rattle.running.specs.Steps.{turn_of, is_ended}
 
 module _ (N : Numbers Pair) (all : List Line) (total : ℕ) where

@@ -5,7 +5,6 @@ use Rattle.motion.specs.Numbers.{Numbers}
 use Rattle.motion.specs.Lines.{Line}
 use Rattle.motion.specs.NextLine.{line_at}
 use Rattle.motion.specs.Machine as M
-use Rattle.record.specs.declared.Values.{Values}
 use Rattle.record.specs.declared.Bench.{Bench}
 use Rattle.record.specs.declared.Refusal.{Refusal}
 use Rattle.record.specs.Refusals.{number_of}

@@ -1,8 +1,7 @@
 -- Calls one after the other. Assumes nothing.
-use Rattle.std.proofs.Common.{◌≡◌, ℕ, zero, suc, ◌<◌, Bool, true, false, List, [], ◌∷◌, ◌++◌, map, length, get_or, take, set, Option, sym, refl, ap, ◌∙◌, subst, arith}
+use Rattle.std.proofs.Common.{◌≡◌, ℕ, zero, suc, ◌<◌, false, List, [], ◌∷◌, ◌++◌, map, length, get_or, set, Option, sym, refl, ap, ◌∙◌, subst, arith}
 use Rattle.script.specs.declared.reading.Entry.{Entry}
 use Rattle.script.specs.declared.places.Place.{Place}
-use Rattle.script.specs.Reading.{entries}
 use Rattle.number.specs.declared.Pair.{Pair}
 use Rattle.number.specs.Frac.{Frac}
 use Rattle.number.specs.Kind.{Holds}
@@ -18,7 +17,7 @@ use Rattle.motion.specs.Pairs.{Meant}
 use Rattle.entries.specs.Fields.{lines, find}
 use Rattle.entries.specs.Decoding.{names_of, script_of}
 use Rattle.checker.specs.declared.checking.Checked.{Checked}
-use Rattle.checker.specs.Scripts.{text_in, table_in, names_in, lines_in, variable_in, Sound}
+use Rattle.checker.specs.Scripts.{text_in, lines_in, variable_in, Sound}
 use Rattle.bench.specs.Built.{first_values}
 use Rattle.bench.proofs.First.{values_held}
 use Rattle.bench.proofs.Promised.{spelled}

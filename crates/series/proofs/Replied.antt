@@ -1,5 +1,5 @@
 -- One call and its reply. Assumes nothing.
-use Rattle.std.proofs.Common.{◌≡◌, ℕ, ◌+◌, ◌≤◌, Bool, true, false, cond, ◌&&◌, ◌||◌, leb, List, [], ◌∷◌, ◌++◌, length, take, ℤ, Ok, Err, Option, Result, sym, refl, ap, ◌∙◌, subst, add-zero, arith}
+use Rattle.std.proofs.Common.{◌≡◌, ℕ, ◌+◌, ◌≤◌, Bool, true, false, cond, ◌&&◌, ◌||◌, leb, List, length, ℤ, Ok, Err, Option, Result, sym, refl, ap, ◌∙◌, subst, add-zero, arith}
 use Rattle.std.proofs.lemmas.Bool.Decides.{nat_tests}
 use Rattle.number.specs.declared.Pair.{Pair}
 use Rattle.number.specs.Frac.{Frac}
@@ -27,16 +27,15 @@ use Rattle.handover.specs.Lines.{line_of}
 use Rattle.handover.proofs.Lawful.{short_lines}
 use Rattle.bench.specs.Built.{first_values}
 use Rattle.bench.specs.Calls.{fitting, advanced, told, kept_if_refused, unfit, read_variable, written}
-use Rattle.bench.specs.Laws.{OnCurve, ReadsCurve}
+use Rattle.bench.specs.Laws.{OnCurve}
 use Rattle.bench.proofs.Fitted.{fits_within}
 use Rattle.bench.proofs.Called.{reads}
 use Rattle.series.specs.declared.calls.Name.{Name}
 use Rattle.series.specs.declared.calls.Call.{Call}
-use Rattle.series.specs.declared.calls.Call.TheVariants.{Advance, Reading, NextJoint, Write, HandOver}
+use Rattle.series.specs.declared.calls.Call.TheVariants.{Advance}
 use Rattle.series.specs.declared.calls.Reply.{Reply}
-use Rattle.series.specs.declared.calls.Reply.TheVariants.{Advanced, Value, Refused}
-use Rattle.series.specs.declared.calls.Step.{Step}
-use Rattle.series.specs.Series.{name_bytes, advance_reply, value_reply, size_reply, hand_reply, handed, ticks_in, is_advanced, step, write_call, read_call, KeptAfter, Replies, advances, advance_refused, reads as told-reading, asks, writes, hands_over, ValueTold, ReadTold, After, Performed}
+use Rattle.series.specs.declared.calls.Reply.TheVariants.{Refused}
+use Rattle.series.specs.Series.{name_bytes, advance_reply, value_reply, size_reply, hand_reply, handed, ticks_in, is_advanced, write_call, read_call, KeptAfter, Replies, advances, advance_refused, reads as told-reading, asks, writes, hands_over, ValueTold, ReadTold}
 
 -- what was written is taken up as the same bench
 pub hand_same : (b c : M.Bench Pair) (x : Result (M.Bench Pair) Refusal) → Ok c ≡ x → x ≡ Ok b → c ≡ b

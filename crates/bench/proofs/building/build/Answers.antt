@@ -1,6 +1,5 @@
-use Rattle.std.proofs.Common.{◌≡◌, ℕ, ◌+◌, List, map, length, take, sym, refl, subst}
+use Rattle.std.proofs.Common.{◌≡◌, List, map, length, take, sym, subst}
 use Rattle.script.specs.declared.reading.Entry.{Entry}
-use Rattle.number.specs.declared.Pair.{Pair}
 use Rattle.motion.specs.Carriers.{Each}
 use Rattle.motion.specs.NextLine.{declared}
 use Rattle.motion.specs.Pairs.{Meant}

@@ -1,6 +1,5 @@
-use Rattle.std.proofs.Common.{◌≡◌, ℕ, List, length, take, ap, ◌∙◌, arith}
+use Rattle.std.proofs.Common.{ℕ, List, length, take, ap, ◌∙◌, arith}
 use Rattle.entries.specs.declared.rows.Row.{Row}
-use Rattle.checker.specs.Scripts.{rows_in}
 use Rattle.running.proofs.Lookups.{part_short, from_first}
 use Rattle.bench.proofs.building.var_rows.Goals as goal
 

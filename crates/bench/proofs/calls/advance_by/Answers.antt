@@ -1,8 +1,6 @@
-use Rattle.std.proofs.Common.{◌≡◌, Bool, true, cond, sym, refl, ap, ◌∙◌}
+use Rattle.std.proofs.Common.{refl, ◌∙◌}
 use Rattle.std.proofs.lemmas.Result.{err_from_is_err_and}
-use Rattle.number.specs.declared.Pair.{Pair}
 use Rattle.motion.specs.Pairs.{numbers_of}
-use Rattle.motion.specs.Machine as M
 use Rattle.checker.specs.Scripts.{lines_in}
 use Rattle.checker.proofs.LaidOver.{laid}
 use Rattle.bench.proofs.Numbered.{advance_fits}

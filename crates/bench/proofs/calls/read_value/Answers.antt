@@ -1,4 +1,4 @@
-use Rattle.std.proofs.Common.{◌≡◌, Err, sym, ap, ◌∙◌}
+use Rattle.std.proofs.Common.{Err, ap, ◌∙◌}
 use Rattle.postfix.proofs.Written.{nth_in, nth_out}
 use Rattle.bench.specs.Calls.{read_value}
 use Rattle.bench.proofs.Called.{terms_read, terms_lost}

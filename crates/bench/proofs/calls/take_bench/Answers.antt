@@ -1,4 +1,4 @@
-use Rattle.std.proofs.Common.{◌≡◌, Bool, cond, Ok, Err, sym, ap, ◌∙◌}
+use Rattle.std.proofs.Common.{Bool, cond, Ok, Err, sym, ap, ◌∙◌}
 use Rattle.handover.specs.Takes.{taken_up}
 use Rattle.checker.specs.Scripts.{lines_in}
 use Rattle.record.specs.Benches.{bench_of}

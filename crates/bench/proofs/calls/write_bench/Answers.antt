@@ -1,4 +1,4 @@
-use Rattle.std.proofs.Common.{◌≡◌, Err, sym, ap, ◌∙◌}
+use Rattle.std.proofs.Common.{Err, sym, ap, ◌∙◌}
 use Rattle.motion.specs.Pairs.{numbers_of}
 use Rattle.checker.specs.Scripts.{lines_in}
 use Rattle.record.specs.Benches.{bench_of}

@@ -1,4 +1,4 @@
-use Rattle.std.proofs.Common.{◌≡◌, sym, ◌∙◌}
+use Rattle.std.proofs.Common.{sym, ◌∙◌}
 use Rattle.motion.specs.Pairs.{numbers_of}
 use Rattle.bench.proofs.Numbered.{numbers_turn, numbers_over, and_true, and_false}
 use Rattle.bench.proofs.fitting.are_numbers.Goals as goal

@@ -1,4 +1,4 @@
-use Rattle.std.proofs.Common.{◌≡◌, ℕ, ◌≤◌, ◌∙◌, arith}
+use Rattle.std.proofs.Common.{◌≡◌, ℕ, ◌∙◌, arith}
 use Rattle.motion.specs.Pairs.{numbers_of}
 use Rattle.checker.specs.Scripts.{lines_in}
 use Rattle.running.proofs.Lookups.{from_first}

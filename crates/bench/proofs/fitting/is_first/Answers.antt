@@ -1,4 +1,4 @@
-use Rattle.std.proofs.Common.{◌≡◌, ℕ, ◌+◌, sym, ap, ◌∙◌}
+use Rattle.std.proofs.Common.{ℕ, ◌+◌, sym, ap, ◌∙◌}
 use Rattle.bench.proofs.First.{first_there}
 use Rattle.bench.proofs.Numbered.{one_less, naught_less}
 use Rattle.bench.proofs.fitting.is_first.Goals as goal

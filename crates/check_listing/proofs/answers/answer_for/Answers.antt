@@ -1,4 +1,3 @@
-use Rattle.std.proofs.Common.{◌∙◌}
 use Rattle.check_listing.proofs.Answered.{passed_answer}
 use Rattle.check_listing.proofs.answers.answer_for.Goals as goal
 

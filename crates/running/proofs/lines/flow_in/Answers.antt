@@ -1,11 +1,11 @@
-use Rattle.std.proofs.Common.{◌≡◌, ℕ, List, length, drop, refl, ap, ◌∙◌}
+use Rattle.std.proofs.Common.{◌≡◌, ℕ, List, drop, refl, ap, ◌∙◌}
 use Rattle.script.specs.declared.reading.Entry.{Entry}
 use Rattle.motion.specs.NextLine.{rates}
 use Rattle.motion.specs.Lines.{Rate}
 use Rattle.motion.specs.Flow as F
 use Rattle.motion.specs.Pairs.{numbers_of}
 use Rattle.entries.specs.declared.rows.Row.{Row}
-use Rattle.entries.specs.Decoding.{part, rows_lines}
+use Rattle.entries.specs.Decoding.{rows_lines}
 use Rattle.checker.specs.Scripts.{table_in, places_in, rows_in, lines_in}
 use Rattle.record.specs.Benches.{pairs_of}
 use Rattle.running.proofs.Lookups.{part_all, rates_behind, thrice}

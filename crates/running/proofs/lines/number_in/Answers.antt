@@ -1,4 +1,4 @@
-use Rattle.std.proofs.Common.{◌≡◌, ℕ, ◌-◌, List, length, take, drop, sym, ap, ◌∙◌, arith}
+use Rattle.std.proofs.Common.{◌≡◌, ℕ, List, length, sym, ap, ◌∙◌, arith}
 use Rattle.script.specs.declared.reading.Entry.{Entry}
 use Rattle.number.specs.declared.Pair.{Pair}
 use Rattle.motion.specs.Items.{number_of}

@@ -1,4 +1,4 @@
-use Rattle.std.proofs.Common.{◌≡◌, length, ap, ◌∙◌, arith}
+use Rattle.std.proofs.Common.{◌≡◌, length, ap, arith}
 use Rattle.checker.specs.Scripts.{table_in, places_in, rows_in, lines_in}
 use Rattle.running.proofs.Lookups.{lines_long, place_ended, place_on}
 use Rattle.running.proofs.lines.standing_at.Goals as goal

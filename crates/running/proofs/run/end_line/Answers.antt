@@ -1,4 +1,4 @@
-use Rattle.std.proofs.Common.{◌≡◌, length, ap, ◌∙◌, arith}
+use Rattle.std.proofs.Common.{◌≡◌, length, ap, arith}
 use Rattle.checker.specs.Scripts.{table_in, places_in, rows_in}
 use Rattle.running.proofs.Lookups.{lines_long}
 use Rattle.running.proofs.run.end_line.Goals as goal

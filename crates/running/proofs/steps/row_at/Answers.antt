@@ -1,4 +1,4 @@
-use Rattle.std.proofs.Common.{◌≡◌, ◌-◌, ◌<◌, ◌≤◌, List, length, get_or, sym, refl, ap, ◌∙◌, subst, arith}
+use Rattle.std.proofs.Common.{◌≡◌, ◌-◌, ◌≤◌, List, length, get_or, sym, ap, subst, arith}
 use Rattle.entries.specs.declared.rows.Row.{Row}
 use Rattle.checker.specs.Scripts.{table_in, places_in, rows_in, lines_in}
 use Rattle.motion.specs.NextLine.{line_at}

@@ -1,7 +1,5 @@
-use Rattle.std.proofs.Common.{◌≡◌, ℕ, ◌≤◌, cond, List, sym, refl, ap, ◌∙◌, subst}
+use Rattle.std.proofs.Common.{ℕ, ◌≤◌, cond, List, sym, ap, ◌∙◌, subst}
 use Rattle.motion.specs.Pairs.{numbers_of}
-use Rattle.motion.specs.Machine as M
-use Rattle.number.specs.declared.Pair.{Pair}
 use Rattle.checker.specs.Scripts.{lines_in, variable_in}
 use Rattle.record.specs.Benches.{pairs_of, bench_of}
 use Rattle.running.proofs.Lookups.{from_first}

@@ -1,10 +1,10 @@
-use Rattle.std.proofs.Common.{◌≡◌, ◌<◌, List, length, take, sym, refl, ap, ◌∙◌, subst, arith}
+use Rattle.std.proofs.Common.{◌<◌, List, length, take, sym, refl, ◌∙◌, subst, arith}
 use Rattle.std.proofs.lemmas.List.{take_more_set, take_all}
 use Rattle.checker.specs.Scripts.{lines_in, variable_in}
 use Rattle.record.specs.Benches.{bench_of}
 use Rattle.bench.proofs.First.{values_held}
 use Rattle.series.specs.declared.calls.Step.{Step}
-use Rattle.series.specs.Series.{step, Performed}
+use Rattle.series.specs.Series.{Performed}
 use Rattle.series.proofs.Along.{calls_same, performed_none, sound_more}
 use Rattle.series.proofs.performing.perform_on.Goals as goal
 
