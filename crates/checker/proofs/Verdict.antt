@@ -1,8 +1,7 @@
 -- The answer of a check is what the rules of acceptance and refusal say. Assumes nothing.
-use Rattle.std.proofs.Common.{◌≡◌, ℕ, ◌+◌, ◌-◌, Bool, true, false, not, ◌||◌, eqb, ltb, ◌⊎◌, List, [], ◌∷◌, ◌++◌, map, length, get_or, take, Ok, Err, Option, Result, sym, refl, ap, ◌∙◌, subst, inl, inr, arith}
+use Rattle.std.proofs.Common.{◌≡◌, ℕ, ◌+◌, ◌-◌, Bool, true, false, not, ◌||◌, eqb, ltb, ◌⊎◌, List, [], ◌∷◌, map, length, get_or, take, Ok, Err, Option, Result, sym, refl, ap, ◌∙◌, subst, inl, inr, arith}
 use borrow.Author.Tests.{clash}
 use Rattle.std.proofs.lemmas.Bool.{or_parts, or_cases, not-true, ltb-true, ltb-false, eq-eqb, ne_eqb, cond-true, cond-false}
-use Rattle.std.specs.List.{AllByRecursion}
 use Rattle.script.specs.declared.places.Place.{Place}
 use Rattle.script.specs.declared.reading.Entry.{Entry}
 use Rattle.script.specs.Places.{places}
@@ -31,10 +30,6 @@ use Rattle.checker.proofs.Faults.{all_right_is, fault_in, GoneThrough, clear, br
 use Rattle.checker.proofs.Runs.{kept_is, broken_in, LookedAt, all_keep, one_breaks, look}
 
 -- the table -------------------------------------------------------------------------
-
-in_middle : {A : Type 0} (P : A → Type 0) (before : List A) (x : A) (after : List A) → AllByRecursion P (before ++ x ∷ after) → P x
-in_middle P [] x after h = h.0
-in_middle P (y ∷ ys) x after h = in_middle P ys x after h.1
 
 module _ (text : List ℕ) (fields : ℕ) (table : List Entry) where
   own_told : other_table text fields table ≡ false → Own text fields table

@@ -1,5 +1,5 @@
 -- The bench of a line, as it is read.
-use Rattle.std.proofs.Common.{◌≡◌, ℕ, ◌-◌, ◌≤◌, Bool, true, false, cond, ◌&&◌, List, [], take, Some, None, Decides, Option, sym, refl, ap, ◌∙◌, arith}
+use Rattle.std.proofs.Common.{◌≡◌, ℕ, ◌-◌, ◌≤◌, Bool, true, false, cond, ◌&&◌, List, [], take, Some, None, Option, sym, ap, ◌∙◌, arith}
 use Rattle.std.specs.Str.{bytes_eq}
 use Rattle.std.proofs.lemmas.Bool.{le-leb}
 use Rattle.number.specs.declared.Pair.{Pair}
@@ -11,12 +11,6 @@ use Rattle.handover.specs.declared.scanning.Fields.{Fields}
 use Rattle.handover.specs.Lines.{all_meant, writable, line_of}
 use Rattle.handover.specs.Scans.{blank, fields_of, scanned}
 use Rattle.handover.specs.Takes.{then, bench_from, if_same, read_of}
-
--- two tests that decide the same are the same
-pub decided : (a b : Bool) (P : Type 0) → Decides a P → Decides b P → a ≡ b
-decided true b P h k = sym (k.1 (h.0 refl))
-decided false true P h k = h.1 (k.0 refl)
-decided false false P h k = refl
 
 -- what is read, by the bench of the fields
 pub read_by : (bytes : List ℕ) (f : Fields) (o : Option (M.Bench Pair)) → fields_of f ≡ scanned [] blank bytes → o ≡ bench_from (take (f.count - 0) f.pairs) → then o (if_same bytes) ≡ read_of bytes
