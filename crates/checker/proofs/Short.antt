@@ -1,6 +1,7 @@
 -- No line of a text that is in order has more than 18 fields. Assumes nothing.
 use Rattle.std.proofs.Common.{◌≡◌, ℕ, suc, ◌+◌, ◌≤◌, Bool, true, false, cond, ◌&&◌, leb, List, [], ◌∷◌, map, length, Some, None, Ok, Err, Option, Result, sym, refl, ap, ◌∙◌, subst, arith}
 use Rattle.std.proofs.lemmas.List.{length-map}
+use Rattle.std.proofs.lemmas.Bool.{and_parts}
 use Rattle.std.proofs.lemmas.Bool.Decides.{nat_tests}
 use Rattle.std.specs.List.{AllByRecursion}
 use Rattle.script.specs.declared.words.LineWord.{LineWord}
@@ -16,19 +17,15 @@ use Rattle.entries.specs.Fields.{lines}
 use Rattle.checker.specs.Verdict.{numbered}
 use Rattle.checker.proofs.Lined.{cells_count, lines_of_text}
 
-both : (a b : Bool) → (a && b) ≡ true → (a ≡ true) × (b ≡ true)
-both true b h = (refl, h)
-both false b h = let z : ◌≡◌ {A = ℕ} 0 1 = cc in absurd (omega arith)
-
 -- a line has at most 18 fields, whatever its word
 few_fields : (w : LineWord) (n : ℕ) → count_suits w n ≡ true → n ≤ 18
 few_fields Var n h = grind (arith, nat_tests)
-few_fields Set n h = let k = both (leb 3 n) (leb n 18) h in let e = k.1 in grind (arith, nat_tests)
-few_fields Run n h = let k = both (leb 2 n) (leb n 17) h in let e = k.1 in grind (arith, nat_tests)
-few_fields Rate n h = let j = both (leb 4 n && leb n 14) _ h in let k = both (leb 4 n) (leb n 14) j.0 in let e = k.1 in grind (arith, nat_tests)
-few_fields If n h = let k = both (leb 2 n) (leb n 17) h in let e = k.1 in grind (arith, nat_tests)
+few_fields Set n h = let k = and_parts (leb 3 n) (leb n 18) h in let e = k.1 in grind (arith, nat_tests)
+few_fields Run n h = let k = and_parts (leb 2 n) (leb n 17) h in let e = k.1 in grind (arith, nat_tests)
+few_fields Rate n h = let j = and_parts (leb 4 n && leb n 14) _ h in let k = and_parts (leb 4 n) (leb n 14) j.0 in let e = k.1 in grind (arith, nat_tests)
+few_fields If n h = let k = and_parts (leb 2 n) (leb n 17) h in let e = k.1 in grind (arith, nat_tests)
 few_fields Else n h = grind (arith, nat_tests)
-few_fields While n h = let k = both (leb 2 n) (leb n 17) h in let e = k.1 in grind (arith, nat_tests)
+few_fields While n h = let k = and_parts (leb 2 n) (leb n 17) h in let e = k.1 in grind (arith, nat_tests)
 few_fields End n h = grind (arith, nat_tests)
 
 row_short : (line : ℕ) (r : Row) → passes (row_check line r) ≡ true → width r ≤ 18
@@ -74,6 +71,6 @@ ended a false e f r h = refl
 
 pub lines_short : (text : List ℕ) → is_in_order text ≡ true → AllByRecursion (λ l. length l ≤ 18) (lines (entries text))
 lines_short text h =
-    let k = both (passes (text_check text)) _ h in
+    let k = and_parts (passes (text_check text)) _ h in
     let u : unended text ≡ false = ended _ (unended text) _ _ _ k.0 in
     mapped_short text (lines (entries text)) (subst (AllByRecursion (λ cs. length cs ≤ 18)) (sym (lines_of_text text u)) (numbered_short 1 (rows text) (rows_short 1 (rows text) k.1)))
