@@ -1,12 +1,13 @@
 -- What is printed of a text. Assumes nothing.
-use Rattle.std.proofs.Common.{◌≡◌, ℕ, ◌+◌, ◌*◌, ◌<◌, ◌≤◌, Bool, true, false, not, List, [], ◌∷◌, ◌++◌, map, length, get_or, take, drop, IfOk, Some, None, Ok, Err, Option, Result, sym, refl, ap, ◌∙◌, subst, arith}
+use Rattle.std.proofs.Common.{◌≡◌, ℕ, ◌+◌, ◌*◌, ◌<◌, ◌≤◌, true, false, not, List, [], ◌∷◌, ◌++◌, map, length, get_or, take, drop, Some, None, Ok, Option, sym, refl, ap, ◌∙◌, subst, arith}
 use Rattle.std.proofs.lemmas.List.{at_drop_more, append_assoc, length-take-le}
+use Rattle.std.proofs.lemmas.Bool.{not-false}
 use Rattle.std.proofs.lemmas.Bool.Decides.{nat_tests}
 use Rattle.std.specs.List.{AllByRecursion, flat_map}
 use Rattle.script.specs.declared.words.LineWord.{LineWord}
 use Rattle.script.specs.declared.words.LineWord.TheVariants.{Var, Set, Run, Rate, If, Else, While, End}
 use Rattle.script.specs.declared.reading.Entry.{Entry}
-use Rattle.script.specs.declared.refusals.Refusal.{Refusal}
+use Rattle.script.specs.Refusals.{Refusal}
 use Rattle.script.specs.declared.refusals.Reason.TheVariants.{TableTooShort}
 use Rattle.script.specs.Words.{line_word}
 use Rattle.script.specs.Tokens.{token_of}
@@ -39,14 +40,9 @@ all_lines text table lines fields e fits h =
     ∙ ap (λ n. flat_map cell_line (cells 1 (rows text)) ++ total_line lines n) (length-take-le fields table fits)
     ∙ ap (shown text) e
 
-pub made_as : {A E : Type 0} (r : Result A E) (P Q : A → Type 0) → ((a : A) → P a → Q a) → IfOk r P → IfOk r Q
-made_as (Ok a) P Q f h = f a h
-made_as (Err e) P Q f h = tt
-
--- the same, by the counts that the draft gives
-pub lines_cut : (text : List ℕ) (table : List Entry) (lines fields l n : ℕ) → l ≡ lines → n ≡ fields → Ok (lines, fields) ≡ read_of text room → fields ≤ length table → Entered text (take fields table) → entry_lines text (take n table) ++ total_line l (length (take n table)) ≡ printed text
-lines_cut text table lines fields l n p q e fits h =
-    rw (q, p) (all_lines text table lines fields e fits h)
+-- the same, by the text and the counts that the draft gives
+pub lines_cut : (text own : List ℕ) (table : List Entry) (lines fields n : ℕ) → own ≡ text → n ≡ fields → Ok (lines, fields) ≡ read_of text room → fields ≤ length table → Entered text (take fields table) → entry_lines own (take n table) ++ total_line lines (length (take n table)) ≡ printed text
+lines_cut text own table lines fields n p q e fits h = rw (q, p) (all_lines text table lines fields e fits h)
 
 -- no line has more than 18 fields ---------------------------------------------
 
@@ -60,12 +56,8 @@ suits_few Else n h = grind (arith, nat_tests)
 suits_few While n h = grind (arith, nat_tests)
 suits_few End n h = grind (arith, nat_tests)
 
-not_false : (b : Bool) → not b ≡ false → b ≡ true
-not_false true h = refl
-not_false false h = sym h
-
 few_by : (r : Row) (l : Option LineWord) → is_none l ≡ false → of_word l (λ w. not (count_suits w (width r))) ≡ false → width r ≤ 18
-few_by r (Some w) a b = suits_few w (width r) (not_false (count_suits w (width r)) b)
+few_by r (Some w) a b = suits_few w (width r) (not-false (count_suits w (width r)) b)
 few_by r None a b = let z : ◌≡◌ {A = ℕ} 0 1 = cc in absurd (omega arith)
 
 few_fields : (rs : List Row) → AllByRecursion Right rs → fields_in rs ≤ 18 * length rs

@@ -1,12 +1,12 @@
 -- What the program `fields` prints of a text. Assumes nothing.
 use Rattle.std.specs.Prelude.{◌≡◌, ℕ, List, [], ◌∷◌, ◌++◌, Ok, Err, codes, decimal, Result, ◌≢◌}
 use Rattle.std.specs.List.{flat_map}
+use Rattle.refusal.specs.Refusals.{refusal_text}
 use Rattle.script.specs.declared.tokens.Token.{Token}
 use Rattle.script.specs.declared.tokens.Token.TheVariants as token
 use Rattle.script.specs.declared.reading.Entry.{Entry}
-use Rattle.script.specs.declared.refusals.Refusal.{Refusal}
+use Rattle.script.specs.Refusals.{Refusal, number_of}
 use Rattle.script.specs.declared.refusals.Reason.TheVariants.{TableTooShort}
-use Rattle.script.specs.Refusals.{number_of}
 use Rattle.script.specs.Tokens.{token_of}
 use Rattle.script.specs.Places.{bytes_at}
 use Rattle.script.specs.Lines.{Cell, cells, rows}
@@ -43,11 +43,8 @@ abbrev pub total_line : ℕ → ℕ → List ℕ
 total_line lines fields = codes "read," ++ (decimal lines ++ (codes "," ++ (decimal fields ++ codes "\n")))
 
 -- refused,NUMBER,LINE,FIELD and a line feed
-abbrev pub refused_line : ℕ → ℕ → ℕ → List ℕ
-refused_line number line field = codes "refused," ++ (decimal number ++ (codes "," ++ (decimal line ++ (codes "," ++ (decimal field ++ codes "\n")))))
-
 abbrev pub refusal_line : Refusal → List ℕ
-refusal_line r = refused_line (number_of r.reason) r.line r.field
+refusal_line r = codes "refused," ++ (refusal_text (number_of r.reason) r.line r.field ++ codes "\n")
 
 -- what is printed of a text by the answer of its reading: the fields of its lines in order, or the refusal
 abbrev pub shown : List ℕ → Result (ℕ × ℕ) Refusal → List ℕ

@@ -2,13 +2,10 @@
 #![tactic(auto)]
 
 ghost use Rattle.std.specs.Prelude.{◌≡◌, ◌++◌, length, IfOk, string_bytes};
-ghost use Rattle.listing.specs.Rows.{kind_of, entry_line, entry_lines, total_line, refused_line, refusal_line, printed, RoomEnough};
+ghost use Rattle.listing.specs.Rows.{kind_of, entry_line, entry_lines, total_line, refusal_line, printed, RoomEnough};
 
-use script::{Entry, Refusal, Token, read};
+use script::{Draft, Entry, MOST_FIELDS, Refusal, Token, read};
 use std::alloc::{AllocError, Global};
-
-// As many entries as a script can have fields: 256 lines of 18.
-pub const ENTRIES: usize = 4608;
 
 fn kind(token: Token) -> &'static str
     ensures { result.now ≡ kind_of token }
@@ -52,39 +49,28 @@ fn total(heap: Global, lines: usize, fields: usize) -> Result<String, AllocError
     format!(in heap; "read,{lines},{fields}\n")
 }
 
-fn refused_by(heap: Global, number: u8, line: usize, field: usize) -> Result<String, AllocError>
-    ensures { IfOk result (λ s. string_bytes s ≡ refused_line number line field) }
-{
-    format!(in heap; "refused,{number},{line},{field}\n")
-}
-
 // `refused,NUMBER,LINE,FIELD` and a line feed.
 pub fn refused(heap: Global, refusal: Refusal) -> Result<String, AllocError>
     ensures { IfOk result (λ s. string_bytes s ≡ refusal_line refusal) }
 {
-    refused_by(heap, refusal.reason.number(), refusal.line, refusal.field)
+    format!(in heap; "refused,{refusal}\n")
 }
 
 // What is printed of an accepted text.
-fn accepted(
-    heap: Global,
-    text: &[u8],
-    entries: &[Entry],
-    lines: usize,
-) -> Result<Vec<u8>, AllocError>
-    ensures { IfOk result (λ v. v.items ≡ entry_lines text.now entries.now ++ total_line lines (length entries.now)) }
+fn accepted(heap: Global, draft: &Draft, entries: &[Entry]) -> Result<Vec<u8>, AllocError>
+    ensures { IfOk result (λ v. v.items ≡ entry_lines draft.now.text.now entries.now ++ total_line draft.now.lines (length entries.now)) }
 {
-    let mut out = rows(heap, text, entries)?;
-    out.extend_from_slice(total(heap, lines, entries.len())?.as_bytes())?;
+    let mut out = rows(heap, draft.text(), entries)?;
+    out.extend_from_slice(total(heap, draft.lines(), entries.len())?.as_bytes())?;
     Ok(out)
 }
 
 fn report_all(heap: Global, text: &[u8]) -> Result<Vec<u8>, AllocError>
     ensures { IfOk result (λ v. v.items ≡ printed text.now) }
 {
-    let mut table = [Entry::BLANK; ENTRIES];
+    let mut table = [Entry::BLANK; MOST_FIELDS];
     match read(text, &mut table) {
-        Ok(draft) => accepted(heap, text, &table[..draft.fields()], draft.lines()),
+        Ok(draft) => accepted(heap, &draft, &table[..draft.fields()]),
         Err(refusal) => Ok(refused(heap, refusal)?.into_bytes()),
     }
 }

@@ -5,17 +5,16 @@ use Rattle.std.specs.List.{AllByRecursion}
 use Rattle.script.specs.declared.places.Place.{Place}
 use Rattle.script.specs.declared.reading.Entry.{Entry}
 use Rattle.script.specs.declared.reading.Draft.{Draft}
-use Rattle.script.specs.declared.refusals.Refusal.{Refusal}
+use Rattle.script.specs.Refusals.{Refusal}
 use Rattle.script.specs.Tokens.{token_of}
 use Rattle.script.specs.Places.{places, bytes_at}
 use Rattle.script.specs.Lines.{rows, fields_in, written}
 use Rattle.script.specs.Checks.{unended}
 use Rattle.script.specs.Scan.{cell_at}
-use Rattle.script.specs.Reading.{read_of, scan_of, summary, table_after, entry_of, entries, filled}
+use Rattle.script.specs.Reading.{read_of, scan_of, summary, entry_of, entries, filled}
 use Rattle.script.specs.Laws.{Told, cell_of, Entered}
 use Rattle.script.proofs.Verdict.{told, scan_is_read}
 use Rattle.script.proofs.Split.{written_again, places_cells, cell_count}
-use Rattle.script.proofs.Table.{put_fills}
 
 -- there are as many places as fields
 place_count : (text : List ℕ) → unended text ≡ false → length (places text) ≡ fields_in (rows text)
@@ -44,16 +43,10 @@ module _ (text : List ℕ) (room : ℕ) where
   again (Err x) e = tt
 
 module _ (text : List ℕ) (table after : List Entry) where
-  pub fills : (r : Result Draft Refusal) → summary r ≡ scan_of text (length table) → after ≡ table_after (scan_of text (length table)) text table → MatchResult r (λ _. after ≡ filled text table) (λ _. after ≡ table)
-  fills (Ok d) e a =
-      let ok = rules text (length table) (Ok d) e in
-      a ∙ ap (λ v. table_after v text table) (sym e) ∙ put_fills text table (rw (place_count text ok.whole.ended) ok.fits)
-  fills (Err x) e a = a ∙ ap (λ v. table_after v text table) (sym e)
-
-  pub entered : (r : Result Draft Refusal) → summary r ≡ scan_of text (length table) → after ≡ table_after (scan_of text (length table)) text table → IfOk r (λ d. Entered text (take d.fields after))
+  pub entered : (r : Result Draft Refusal) → summary r ≡ scan_of text (length table) → MatchResult r (λ _. after ≡ filled text table) (λ _. after ≡ table) → IfOk r (λ d. Entered text (take d.fields after))
   entered (Ok d) e a =
       let ok = rules text (length table) (Ok d) e in
       let n : length (entries text) ≡ d.fields = length-map (places text) (entry_of text) ∙ place_count text ok.whole.ended ∙ sym ok.all_fields in
-      let t : take d.fields after ≡ entries text = ap (take d.fields) (fills (Ok d) e a) ∙ take_at (entries text) (drop (length (places text)) table) d.fields n in
+      let t : take d.fields after ≡ entries text = ap (take d.fields) a ∙ take_at (entries text) (drop (length (places text)) table) d.fields n in
       subst (Entered text) (sym t) (all_entered text ok.whole.ended)
   entered (Err x) e a = tt

@@ -1,27 +1,16 @@
 -- A line is in order, or its first fault is told. Assumes nothing.
-use Rattle.std.proofs.Common.{◌≡◌, ℕ, ◌+◌, Bool, true, false, not, ◌&&◌, List, [], ◌∷◌, ◌++◌, length, Some, None, Ok, Err, Option, sym, refl, ap, ◌∙◌, arith}
+use Rattle.std.proofs.Common.{◌≡◌, ℕ, ◌+◌, Bool, true, false, not, List, [], ◌∷◌, ◌++◌, length, Some, None, Ok, Err, Option, sym, refl, ap, ◌∙◌, arith}
+use Rattle.std.proofs.lemmas.Bool.{and_parts, not-false, not-true}
 use Rattle.std.specs.List.{AllByRecursion}
 use Rattle.script.specs.declared.words.LineWord.{LineWord}
-use Rattle.script.specs.declared.refusals.Refusal.{Refusal}
+use Rattle.script.specs.Refusals.{Refusal}
 use Rattle.script.specs.declared.refusals.Reason.TheVariants.{NoLineWord, FieldCount, FieldForm}
 use Rattle.script.specs.Words.{line_word}
 use Rattle.script.specs.Tokens.{token_of}
 use Rattle.script.specs.Lines.{Row, first, others, width}
-use Rattle.script.specs.Refusals.{refused}
+use Rattle.refusal.specs.Refusals.{refused}
 use Rattle.script.specs.Checks.{and_then, count_suits, form_at, has_form, misfit, by_word, row_check, rows_check}
 use Rattle.script.specs.Laws.{is_none, of_word, no_line_word, wrong_count, forms_fit, Right, Fault, bad_word, bad_count, bad_form}
-
-both : (a b : Bool) → (a && b) ≡ true → (a ≡ true) × (b ≡ true)
-both true b h = (refl, h)
-both false b h = (h, (cc))
-
-not_false : (b : Bool) → not b ≡ false → b ≡ true
-not_false true h = refl
-not_false false h = sym h
-
-not_true : (b : Bool) → not b ≡ true → b ≡ false
-not_true true h = sym h
-not_true false h = refl
 
 -- the fields of a line of this word ---------------------------------------------
 
@@ -29,7 +18,7 @@ module _ (w : LineWord) where
   fit_none : (k : ℕ) (fs : List (List ℕ)) → forms_fit w k fs ≡ true → misfit w k fs ≡ None
   fit_none k [] h = refl
   fit_none k (f ∷ fs) h =
-      let b = both (has_form (form_at w k) (token_of f)) (forms_fit w (k + 1) fs) h in
+      let b = and_parts (has_form (form_at w k) (token_of f)) (forms_fit w (k + 1) fs) h in
       let t : has_form (form_at w k) (token_of f) ≡ true = b.0 in
       rw t (fit_none (k + 1) fs b.1)
 
@@ -39,7 +28,7 @@ module _ (w : LineWord) where
       let t : has_form (form_at w k) (token_of f) ≡ false = ap (λ j. has_form (form_at w j) (token_of f)) (sym d) ∙ u in
       rw t (ap Some (sym d))
   misfit_at k m (g ∷ gs) f after e h u =
-      let b = both (has_form (form_at w k) (token_of g)) (forms_fit w (k + 1) gs) h in
+      let b = and_parts (has_form (form_at w k) (token_of g)) (forms_fit w (k + 1) gs) h in
       let t : has_form (form_at w k) (token_of g) ≡ true = b.0 in
       rw t (misfit_at (k + 1) m gs f after (omega arith) b.1 u)
 
@@ -64,8 +53,8 @@ module _ (w : LineWord) where
 
 right_by : (line : ℕ) (r : Row) (l : Option LineWord) → is_none l ≡ false → of_word l (λ w. not (count_suits w (width r))) ≡ false → of_word l (λ w. not (forms_fit w 2 (others r))) ≡ false → by_word line r l ≡ Ok tt
 right_by line r (Some w) a b c =
-    let s : count_suits w (width r) ≡ true = not_false (count_suits w (width r)) b in
-    let n : misfit w 2 (others r) ≡ None = fit_none w 2 (others r) (not_false (forms_fit w 2 (others r)) c) in
+    let s : count_suits w (width r) ≡ true = not-false (count_suits w (width r)) b in
+    let n : misfit w 2 (others r) ≡ None = fit_none w 2 (others r) (not-false (forms_fit w 2 (others r)) c) in
     rw (s, n)
 right_by line r None a b c = let z : ◌≡◌ {A = ℕ} 0 1 = cc in absurd (omega arith)
 
@@ -73,7 +62,7 @@ pub right_is : (line : ℕ) (r : Row) → Right r → row_check line r ≡ Ok tt
 right_is line r h = right_by line r (line_word (first r)) h.begun h.counted h.formed
 
 count_by : (line : ℕ) (r : Row) (l : Option LineWord) → is_none l ≡ false → of_word l (λ w. not (count_suits w (width r))) ≡ true → by_word line r l ≡ Err (refused FieldCount line 0)
-count_by line r (Some w) a b = let s : count_suits w (width r) ≡ false = not_true (count_suits w (width r)) b in rw s
+count_by line r (Some w) a b = let s : count_suits w (width r) ≡ false = not-true (count_suits w (width r)) b in rw s
 count_by line r None a b = let z : ◌≡◌ {A = ℕ} 0 1 = cc in absurd (omega arith)
 
 word_by : (line : ℕ) (r : Row) (l : Option LineWord) → is_none l ≡ true → by_word line r l ≡ Err (refused NoLineWord line 1)
@@ -81,7 +70,7 @@ word_by line r (Some w) a = let z : ◌≡◌ {A = ℕ} 0 1 = cc in absurd (omeg
 word_by line r None a = refl
 
 form_by : (line : ℕ) (r : Row) (w : LineWord) (m : ℕ) → of_word (Some w) (λ w. not (count_suits w (width r))) ≡ false → misfit w 2 (others r) ≡ Some m → by_word line r (Some w) ≡ Err (refused FieldForm line m)
-form_by line r w m b n = let s : count_suits w (width r) ≡ true = not_false (count_suits w (width r)) b in rw (s, n)
+form_by line r w m b n = let s : count_suits w (width r) ≡ true = not-false (count_suits w (width r)) b in rw (s, n)
 
 pub fault_is : (line : ℕ) (r : Row) (e : Refusal) → Fault line r e → row_check line r ≡ Err e
 fault_is line r e (bad_word a) = word_by line r (line_word (first r)) a

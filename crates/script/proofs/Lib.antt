@@ -1,3 +1,4 @@
+pub mod Found
 pub mod Turns
 pub mod Values
 pub mod Spelt

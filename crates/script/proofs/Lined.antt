@@ -9,13 +9,13 @@ use Rattle.script.specs.declared.words.Word.TheVariants as word
 use Rattle.script.specs.declared.tokens.Token.{Token}
 use Rattle.script.specs.declared.tokens.Token.TheVariants as token
 use Rattle.script.specs.declared.checks.Line.{Line}
-use Rattle.script.specs.declared.refusals.Refusal.{Refusal}
+use Rattle.script.specs.Refusals.{Refusal}
 use Rattle.script.specs.declared.refusals.Reason.TheVariants.{NoLineWord}
 use Rattle.script.specs.Words.{line_word, operator, or_line, or_operator}
 use Rattle.script.specs.Numbers.{number_of}
 use Rattle.script.specs.Tokens.{is_name, or_word, or_number, token_of}
 use Rattle.script.specs.Lines.{Row, row, fields_in, Cell, cells_from, cells}
-use Rattle.script.specs.Refusals.{refused}
+use Rattle.refusal.specs.Refusals.{refused}
 use Rattle.script.specs.Checks.{sooner, and_then, form_at, has_form, misfit, by_word, rows_check}
 use Rattle.script.specs.Scan.{line_so_far, begin, finish, finish_any, next_line, scan}
 use Rattle.script.proofs.Bytes.{sooner_by, sooner_none}

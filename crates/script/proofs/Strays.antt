@@ -1,12 +1,9 @@
 -- The first byte that is not allowed. Assumes nothing.
-use Rattle.std.proofs.Common.{◌≡◌, ℕ, ◌+◌, Bool, true, false, cond, ◌&&◌, eqb, List, [], ◌∷◌, ◌++◌, Some, None, Option, refl, ap, ◌∙◌, arith}
+use Rattle.std.proofs.Common.{◌≡◌, ℕ, ◌+◌, Bool, true, false, cond, eqb, List, [], ◌∷◌, ◌++◌, Some, None, Option, refl, ap, ◌∙◌, arith}
+use Rattle.std.proofs.lemmas.Bool.{and_parts}
 use Rattle.script.specs.declared.checks.Spot.{Spot}
 use Rattle.script.specs.Checks.{feeds, allowed, stray, spot}
 use Rattle.script.specs.Laws.{all_allowed, commas_after}
-
-both : (a b : Bool) → (a && b) ≡ true → (a ≡ true) × (b ≡ true)
-both true b h = (refl, h)
-both false b h = (h, (cc))
 
 same : (t u : Bool) (a b c : Option Spot) → a ≡ None → b ≡ None → c ≡ None → cond t a (cond u b c) ≡ None
 same true u a b c p q r = p
@@ -16,7 +13,7 @@ same false false a b c p q r = r
 pub stray_none : (line field : ℕ) (bs : List ℕ) → all_allowed bs ≡ true → stray line field bs ≡ None
 stray_none line field [] h = refl
 stray_none line field (b ∷ bs) h =
-    let k = both (allowed b) (all_allowed bs) h in
+    let k = and_parts (allowed b) (all_allowed bs) h in
     let a : allowed b ≡ true = k.0 in
     rw a (same (eqb b 10) (eqb b 44) _ _ _ (stray_none (line + 1) 0 bs k.1) (stray_none line (field + 1) bs k.1) (stray_none line field bs k.1))
 
@@ -31,7 +28,7 @@ pick false false line n x y z a b c p q r = r
 pub stray_at : (line field : ℕ) (before : List ℕ) (b : ℕ) (after : List ℕ) → all_allowed before ≡ true → allowed b ≡ false → stray line field (before ++ b ∷ after) ≡ Some (spot (line + feeds before + 1) (commas_after field before + 1))
 stray_at line field [] b after h k = let e : line + 1 ≡ line + 0 + 1 = omega arith in rw k (ap (λ l. Some (spot l (field + 1))) e)
 stray_at line field (c ∷ cs) b after h k =
-    let j = both (allowed c) (all_allowed cs) h in
+    let j = and_parts (allowed c) (all_allowed cs) h in
     let a : allowed c ≡ true = j.0 in
     rw a (pick (eqb c 10) (eqb c 44) line (feeds cs) _ _ _ _ _ _ (stray_at (line + 1) 0 cs b after j.1 k) (stray_at line (field + 1) cs b after j.1 k) (stray_at line field cs b after j.1 k))
 

@@ -7,13 +7,13 @@ use Rattle.script.specs.declared.tokens.Token.TheVariants as token
 use Rattle.script.specs.declared.checks.Form.{Form}
 use Rattle.script.specs.declared.checks.Form.TheVariants as form
 use Rattle.script.specs.declared.checks.Spot.{Spot}
-use Rattle.script.specs.declared.refusals.Refusal.{Refusal}
+use Rattle.script.specs.Refusals.{Refusal}
 use Rattle.script.specs.declared.refusals.Reason.TheVariants.{TextTooLong, NoLineFeedAtEnd, StrayByte, TooManyLines, NoLineWord, FieldCount, FieldForm}
 use Rattle.script.specs.Words.{line_word, is_item, is_one}
 use Rattle.script.specs.Numbers.{digit}
 use Rattle.script.specs.Tokens.{letter, token_of}
 use Rattle.script.specs.Lines.{Row, rows, first, others, width}
-use Rattle.script.specs.Refusals.{refused}
+use Rattle.refusal.specs.Refusals.{refused}
 
 -- the first of two, where there is one
 abbrev pub sooner : {A : Type 0} → Option A → Option A → Option A

@@ -3,13 +3,13 @@ use Rattle.std.specs.Prelude.{◌≡◌, ℕ, ◌+◌, ◌<◌, ◌≤◌, Bool,
 use Rattle.std.specs.List.{AllByRecursion}
 use Rattle.script.specs.declared.words.LineWord.{LineWord}
 use Rattle.script.specs.declared.reading.Entry.{Entry}
-use Rattle.script.specs.declared.refusals.Refusal.{Refusal}
+use Rattle.script.specs.Refusals.{Refusal}
 use Rattle.script.specs.declared.refusals.Reason.TheVariants.{TextTooLong, NoLineFeedAtEnd, StrayByte, TooManyLines, NoLineWord, FieldCount, FieldForm, TableTooShort}
 use Rattle.script.specs.Words.{line_word}
 use Rattle.script.specs.Tokens.{token_of}
 use Rattle.script.specs.Places.{bytes_at}
 use Rattle.script.specs.Lines.{Row, first, others, width, rows, fields_in, Cell, cell, cells}
-use Rattle.script.specs.Refusals.{refused}
+use Rattle.refusal.specs.Refusals.{refused}
 use Rattle.script.specs.Checks.{most_bytes, most_lines, feeds, unended, allowed, count_suits, form_at, has_form}
 use Rattle.script.specs.Reading.{read_of}
 

@@ -11,3 +11,4 @@ pub mod Surveys
 pub mod Scan
 pub mod Reading
 pub mod Laws
+pub mod Ahead

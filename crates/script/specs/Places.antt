@@ -1,8 +1,12 @@
 -- The fields of a text and their places, as a cursor gives them. Assumes nothing.
-use Rattle.std.specs.Prelude.{◌≡◌, ℕ, ◌+◌, ◌<◌, cond, ◌&&◌, ◌⊎◌, List, [], ◌∷◌, length, drop, Some, None, Option, ◌==◌, nat_le, slice_index, slice_range}
+use Rattle.std.specs.Prelude.{◌≡◌, ℕ, ◌+◌, Bool, cond, ◌&&◌, ◌||◌, List, [], ◌∷◌, length, drop, Some, None, Option, ◌==◌, nat_le, slice_range}
 use Rattle.script.specs.declared.tokens.Field.{Field}
 use Rattle.script.specs.declared.places.Place.{Place}
 use Rattle.script.specs.Tokens.{token_of, token_in, bytes_in}
+
+-- a comma or a line feed
+abbrev pub ends_field : ℕ → Bool
+ends_field b = b == 44 || b == 10
 
 abbrev pub place : ℕ → ℕ → ℕ → ℕ → Place
 place line field from to = record { line = line; field = field; from = from; to = to }
@@ -45,7 +49,3 @@ Over None rest = rest ≡ []
 abbrev pub Classified : List ℕ → Option (Field × Place) → Type 0
 Classified text (Some x) = (token_in x.0 ≡ token_of (bytes_at text x.1)) × (bytes_in x.0 ≡ bytes_at text x.1)
 Classified text None = Unit {0}
-
--- the text ends there, or a comma or a line feed stands there
-abbrev pub Ended : List ℕ → ℕ → Type 0
-Ended text i = i < length text → (slice_index text i ≡ 10) ⊎ (slice_index text i ≡ 44)

@@ -1,14 +1,14 @@
 -- What reading a text answers and leaves in the table. Assumes nothing.
-use Rattle.std.specs.Prelude.{ℕ, ◌+◌, cond, List, [], ◌∷◌, ◌++◌, map, length, drop, Ok, Err, Result, nat_lt, slice_set}
+use Rattle.std.specs.Prelude.{ℕ, cond, List, ◌++◌, map, length, drop, Ok, Err, Result, nat_lt}
 use Rattle.script.specs.declared.places.Place.{Place}
 use Rattle.script.specs.declared.reading.Entry.{Entry}
 use Rattle.script.specs.declared.reading.Draft.{Draft}
-use Rattle.script.specs.declared.refusals.Refusal.{Refusal}
+use Rattle.script.specs.Refusals.{Refusal}
 use Rattle.script.specs.declared.refusals.Reason.TheVariants.{TableTooShort}
 use Rattle.script.specs.Tokens.{token_of}
 use Rattle.script.specs.Places.{places, bytes_at}
 use Rattle.script.specs.Lines.{rows, fields_in}
-use Rattle.script.specs.Refusals.{refused}
+use Rattle.refusal.specs.Refusals.{refused}
 use Rattle.script.specs.Checks.{and_then, text_check, rows_check}
 use Rattle.script.specs.Scan.{line_check}
 
@@ -33,15 +33,6 @@ summary (Err e) = Err e
 -- The layout of the table: the entry of the field at a place.
 abbrev pub entry_of : List ℕ → Place → Entry
 entry_of text p = record { place = p; token = token_of (bytes_at text p) }
-
--- a table, with the entries of the fields at these places written from index `i` on
-abbrev pub put : List ℕ → ℕ → List Place → List Entry → List Entry
-put text i [] table = table
-put text i (p ∷ ps) table = put text (i + 1) ps (slice_set table i (entry_of text p))
-
-abbrev pub table_after : Result (ℕ × ℕ) Refusal → List ℕ → List Entry → List Entry
-table_after (Ok x) text table = put text 0 (places text) table
-table_after (Err e) text table = table
 
 -- the entries of a text, one for each field in order
 abbrev pub entries : List ℕ → List Entry

@@ -2,7 +2,7 @@
 use Rattle.std.specs.Prelude.{ℕ}
 use Rattle.script.specs.declared.refusals.Reason.{Reason}
 use Rattle.script.specs.declared.refusals.Reason.TheVariants.{TextTooLong, NoLineFeedAtEnd, StrayByte, TooManyLines, NoLineWord, FieldCount, FieldForm, TableTooShort}
-use Rattle.script.specs.declared.refusals.Refusal.{Refusal}
+use Rattle.refusal.specs.declared.Refusal as r
 
 -- the number by which a reason is known
 abbrev pub number_of : Reason → ℕ
@@ -15,6 +15,6 @@ number_of FieldCount = 6
 number_of FieldForm = 7
 number_of TableTooShort = 8
 
--- a refusal for this reason, at this line and field
-abbrev pub refused : Reason → ℕ → ℕ → Refusal
-refused reason line field = record { reason = reason; line = line; field = field }
+-- a refusal by one of these reasons
+abbrev pub Refusal : Type 0
+Refusal = r.Refusal Reason

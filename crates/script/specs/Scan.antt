@@ -7,12 +7,12 @@ use Rattle.script.specs.declared.tokens.Token.{Token}
 use Rattle.script.specs.declared.tokens.Token.TheVariants as token
 use Rattle.script.specs.declared.checks.Line.{Line}
 use Rattle.script.specs.declared.places.Place.{Place}
-use Rattle.script.specs.declared.refusals.Refusal.{Refusal}
+use Rattle.script.specs.Refusals.{Refusal}
 use Rattle.script.specs.declared.refusals.Reason.TheVariants.{NoLineWord, FieldCount}
 use Rattle.script.specs.Tokens.{token_of}
 use Rattle.script.specs.Places.{places, bytes_at}
 use Rattle.script.specs.Lines.{Cell, cell}
-use Rattle.script.specs.Refusals.{refused}
+use Rattle.refusal.specs.Refusals.{refused}
 use Rattle.script.specs.Checks.{sooner, and_then, count_suits, form_at, has_form, by_misfit}
 
 -- a line as far as it was gone through: its word, its fields so far, the first of them that has not the form of its place

@@ -1,7 +1,6 @@
 // The conditions under which a text is refused, in the order in which they are tried.
 ghost use Rattle.std.specs.Prelude.{◌≡◌, ℕ, ◌+◌, ◌<◌, ◌≤◌, length, IfOk};
 ghost use Rattle.script.specs.Places.{places};
-ghost use Rattle.script.specs.Refusals.{refused};
 ghost use Rattle.script.specs.Checks.{feeds, unended, allowed, stray, text_check, count_suits, form_at, has_form};
 ghost use Rattle.script.specs.Scan.{begin, with_field, finish, next_line, line_check};
 ghost use Rattle.script.specs.Surveys.{Surveyed, noted};
@@ -17,25 +16,18 @@ pub const MOST_BYTES: usize = 16384;
 // The most lines that a text can have.
 pub const MOST_LINES: usize = 256;
 
-fn refuse(reason: Reason, line: usize, field: usize) -> Refusal
-    ensures { result ≡ refused reason line field }
-{
-    Refusal {
-        reason,
-        line,
-        field,
-    }
-}
+// The most fields that a text can have: 18 on each line.
+pub const MOST_FIELDS: usize = MOST_LINES * 18;
 
 // A line and a field on it, both from 1.
-#[derive(Clone, Copy)]
+#[derive(Clone, Copy, PartialEq, Eq, Debug)]
 pub struct Spot {
     pub line: usize,
     pub field: usize,
 }
 
 // What one pass over a text finds: its line feeds, and where the first byte stands that is not allowed.
-#[derive(Clone, Copy)]
+#[derive(Clone, Copy, PartialEq, Eq, Debug)]
 pub struct Survey {
     pub feeds: usize,
     pub stray: Option<Spot>,
@@ -44,10 +36,7 @@ pub struct Survey {
 fn is_allowed(b: u8) -> bool
     ensures { result ≡ allowed b }
 {
-    match b {
-        b'a'..=b'z' | b'0'..=b'9' | b',' | b'-' | b'/' | b'\n' => true,
-        _ => false,
-    }
+    matches!(b, b'a'..=b'z' | b'0'..=b'9' | b',' | b'-' | b'/' | b'\n')
 }
 
 // The first stray byte so far, this byte included, which stands after `line` lines and `field` commas of its line.
@@ -55,16 +44,11 @@ fn note(found: Option<Spot>, b: u8, line: usize, field: usize) -> Option<Spot>
     requires { (line < 18446744073709551615) × (field < 18446744073709551615) }
     ensures { result ≡ noted found b line field }
 {
-    if let Some(spot) = found {
-        return Some(spot);
-    }
-    if is_allowed(b) {
-        return None;
-    }
-    Some(Spot {
+    let here = Spot {
         line: line + 1,
         field: field + 1,
-    })
+    };
+    found.or((!is_allowed(b)).then_some(here))
 }
 
 fn look_over(text: &[u8]) -> Survey
@@ -75,11 +59,13 @@ fn look_over(text: &[u8]) -> Survey
     let mut stray: Option<Spot> = None;
     for b in text {
         stray = note(stray, *b, feeds, commas);
-        if *b == b'\n' {
-            feeds += 1;
-            commas = 0;
-        } else if *b == b',' {
-            commas += 1;
+        match b {
+            b'\n' => {
+                feeds += 1;
+                commas = 0;
+            }
+            b',' => commas += 1,
+            _ => {}
         }
     }
     Survey { feeds, stray }
@@ -88,7 +74,7 @@ fn look_over(text: &[u8]) -> Survey
 fn is_unended(text: &[u8]) -> bool
     ensures { result ≡ unended text.now }
 {
-    text.len() > 0 && text[text.len() - 1] != b'\n'
+    text.last().is_some_and(|b| *b != b'\n')
 }
 
 // The number of lines, or what is wrong with the text as a whole.
@@ -96,23 +82,23 @@ pub fn check_text(text: &[u8]) -> Result<usize, Refusal>
     ensures { result ≡ text_check text.now }
 {
     if text.len() > MOST_BYTES {
-        return Err(refuse(Reason::TextTooLong, 0, 0));
+        return Err(Refusal::new(Reason::TextTooLong, 0, 0));
     }
     let found = look_over(text);
     if is_unended(text) {
-        return Err(refuse(Reason::NoLineFeedAtEnd, found.feeds + 1, 0));
+        return Err(Refusal::new(Reason::NoLineFeedAtEnd, found.feeds + 1, 0));
     }
     if let Some(spot) = found.stray {
-        return Err(refuse(Reason::StrayByte, spot.line, spot.field));
+        return Err(Refusal::new(Reason::StrayByte, spot.line, spot.field));
     }
     if found.feeds > MOST_LINES {
-        return Err(refuse(Reason::TooManyLines, 257, 0));
+        return Err(Refusal::new(Reason::TooManyLines, MOST_LINES + 1, 0));
     }
     Ok(found.feeds)
 }
 
 // The form that a place of a line asks for.
-#[derive(Clone, Copy)]
+#[derive(Clone, Copy, PartialEq, Eq, Debug)]
 pub enum Form {
     Name,
     Number,
@@ -126,9 +112,9 @@ fn suits(word: LineWord, fields: usize) -> bool
 {
     match word {
         LineWord::Var => fields == 3,
-        LineWord::Set => fields >= 3 && fields <= 18,
-        LineWord::Run | LineWord::If | LineWord::While => fields >= 2 && fields <= 17,
-        LineWord::Rate => fields >= 4 && fields <= 14 && fields % 2 == 0,
+        LineWord::Set => (3..=18).contains(&fields),
+        LineWord::Run | LineWord::If | LineWord::While => (2..=17).contains(&fields),
+        LineWord::Rate => (4..=14).contains(&fields) && fields % 2 == 0,
         LineWord::Else | LineWord::End => fields == 1,
     }
 }
@@ -137,16 +123,11 @@ fn suits(word: LineWord, fields: usize) -> bool
 fn wanted(word: LineWord, field: usize) -> Form
     ensures { result ≡ form_at word field }
 {
-    match word {
-        LineWord::Var => if field == 2 { Form::Name } else { Form::Number },
-        LineWord::Set => if field == 2 { Form::Name } else { Form::Item },
-        LineWord::Rate => if field == 2 {
-            Form::Name
-        } else if field % 2 == 1 {
-            Form::Number
-        } else {
-            Form::NameOrOne
-        },
+    match (word, field) {
+        (LineWord::Var | LineWord::Set | LineWord::Rate, 2) => Form::Name,
+        (LineWord::Var, _) => Form::Number,
+        (LineWord::Rate, _) if field % 2 == 1 => Form::Number,
+        (LineWord::Rate, _) => Form::NameOrOne,
         _ => Form::Item,
     }
 }
@@ -155,32 +136,18 @@ impl Form {
     fn suits(self, token: Token) -> bool
         ensures { result ≡ has_form self token }
     {
-        match self {
-            Form::Name => match token {
-                Token::Name => true,
-                _ => false,
-            },
-            Form::Number => match token {
-                Token::Number(_) => true,
-                _ => false,
-            },
-            Form::Item => match token {
-                Token::Word(word) => word.is_item(),
-                Token::Name => true,
-                Token::Number(_) => true,
-                Token::Other => false,
-            },
-            Form::NameOrOne => match token {
-                Token::Word(word) => word.is_one(),
-                Token::Name => true,
-                _ => false,
-            },
+        match (self, token) {
+            (Form::Name | Form::Item | Form::NameOrOne, Token::Name) => true,
+            (Form::Number | Form::Item, Token::Number(_)) => true,
+            (Form::Item, Token::Word(word)) => word.is_item(),
+            (Form::NameOrOne, Token::Word(word)) => word.is_one(),
+            _ => false,
         }
     }
 }
 
 // A line as far as it was gone through.
-#[derive(Clone, Copy)]
+#[derive(Clone, Copy, PartialEq, Eq, Debug)]
 pub struct Line {
     pub number: usize,
     pub word: LineWord,
@@ -195,11 +162,8 @@ impl Line {
     fn begin(number: usize, token: Token) -> Result<Line, Refusal>
         ensures { result ≡ begin number token }
     {
-        let Token::Word(word) = token else {
-            return Err(refuse(Reason::NoLineWord, number, 1));
-        };
-        let Word::Line(word) = word else {
-            return Err(refuse(Reason::NoLineWord, number, 1));
+        let Token::Word(Word::Line(word)) = token else {
+            return Err(Refusal::new(Reason::NoLineWord, number, 1));
         };
         Ok(Line {
             number,
@@ -213,19 +177,12 @@ impl Line {
     fn with(self, field: usize, token: Token) -> Line
         ensures { result ≡ with_field self field token }
     {
-        let misfit = match self.misfit {
-            Some(sooner) => Some(sooner),
-            None => if wanted(self.word, field).suits(token) {
-                None
-            } else {
-                Some(field)
-            },
-        };
+        let fits = wanted(self.word, field).suits(token);
+        let misfit = self.misfit.or((!fits).then_some(field));
         Line {
-            number: self.number,
-            word: self.word,
             fields: field,
             misfit,
+            ..self
         }
     }
 
@@ -234,10 +191,10 @@ impl Line {
         ensures { result ≡ finish self }
     {
         if !suits(self.word, self.fields) {
-            return Err(refuse(Reason::FieldCount, self.number, 0));
+            return Err(Refusal::new(Reason::FieldCount, self.number, 0));
         }
         match self.misfit {
-            Some(field) => Err(refuse(Reason::FieldForm, self.number, field)),
+            Some(field) => Err(Refusal::new(Reason::FieldForm, self.number, field)),
             None => Ok(()),
         }
     }
@@ -262,10 +219,9 @@ pub fn check_lines(text: &[u8]) -> Result<usize, Refusal>
     ensures answer { result ≡ line_check text.now }
     ensures all { IfOk result (λ n. n ≡ length (places text.now)) }
 {
-    let mut cursor = Cursor::new(text);
     let mut line: Option<Line> = None;
     let mut fields: usize = 0;
-    while let Some((field, place)) = cursor.next() {
+    for (field, place) in Cursor::new(text) {
         line = Some(next_line(line, field.token(), place)?);
         fields += 1;
     }

@@ -9,9 +9,10 @@ mod refusals;
 mod tokens;
 mod words;
 
-pub use numbers::{Number, digits_bounded, numerals_read};
+pub use checks::{MOST_BYTES, MOST_FIELDS};
+pub use numbers::{Number, number_of};
 pub use places::{Cursor, Place};
 pub use reading::{Draft, Entry, read};
 pub use refusals::{Reason, Refusal};
 pub use tokens::{Field, Token};
-pub use words::{LineWord, Operator, Word, words_spelled};
+pub use words::{LineWord, Operator, Word, word_of};

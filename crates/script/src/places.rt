@@ -1,12 +1,12 @@
 // Where the fields of a text stand, and the cursor that goes from field to field.
-ghost use Rattle.std.specs.Prelude.{◌≡◌, ℕ, ◌+◌, ◌<◌, ◌≤◌, length, drop};
-ghost use Rattle.script.specs.Places.{walk, places, left, bytes_at, yielded, Classified, Over, Ended};
+ghost use Rattle.std.specs.Prelude.{◌≡◌, ◌≤◌, length, position};
+ghost use Rattle.script.specs.Places.{places, left, ends_field, bytes_at};
 
 use crate::tokens::{Field, classify};
 
 // Where a field stands: its line and its number on that line, both from 1,
 // and its bytes in the text, from the first to before `to`.
-#[derive(Clone, Copy)]
+#[derive(Clone, Copy, PartialEq, Eq, Debug)]
 pub struct Place {
     pub line: usize,
     pub field: usize,
@@ -19,13 +19,7 @@ impl Place {
     pub fn bytes<'a>(self, text: &'a [u8]) -> &'a [u8]
         ensures { result.now ≡ bytes_at text.now self }
     {
-        let from = self.from;
-        let to = self.to;
-        if from <= to && to <= text.len() {
-            &text[from..to]
-        } else {
-            &text[0..0]
-        }
+        text.get(self.from..self.to).unwrap_or(&[])
     }
 }
 
@@ -40,19 +34,11 @@ pub struct Cursor<'a> {
     ghost counted: { (at ≤ length text.now) × (line ≤ at) × (field ≤ at) },
 }
 
-// The first comma or line feed from there on, or the text's end.
-fn separator(text: &[u8], from: usize) -> usize
-    requires { from ≤ length text.now }
-    ensures within { (from ≤ result) × (result ≤ length text.now) }
-    ensures walks { (line field : ℕ) → walk line field from from (drop from text.now) ≡ walk line field from result (drop result text.now) }
-    ensures ended { Ended text.now result }
+// How many bytes stand before the first comma or line feed.
+fn field_length(rest: &[u8]) -> Option<usize>
+    ensures { result ≡ position ends_field rest.now }
 {
-    for i in from..text.len() {
-        if text[i] == b'\n' || text[i] == b',' {
-            return i;
-        }
-    }
-    text.len()
+    rest.iter().position(|b| matches!(b, b',' | b'\n'))
 }
 
 impl<'a> Cursor<'a> {
@@ -68,19 +54,22 @@ impl<'a> Cursor<'a> {
             field: 0,
         }
     }
+}
+
+impl<'a> Iterator for Cursor<'a> {
+    type Item = (Field<'a>, Place);
+
+    ghost use Rattle.std.specs.Iterator.{item_count};
+    ghost use Rattle.script.specs.Ahead.{entries_left, Gives};
+
+    ghost next_gives = { Gives };
+
+    ghost remaining = { item_count entries_left };
 
     // The next field that a comma or a line feed ends, and its place; the cursor then stands behind it.
-    pub fn next(&mut self) -> Option<(Field<'a>, Place)>
-        ensures text { self.new.text.now ≡ self.old.text.now }
-        ensures given { yielded result (left self.old.text.now self.new.line self.new.field self.new.at) ≡ left self.old.text.now self.old.line self.old.field self.old.at }
-        ensures over { Over result (left self.old.text.now self.new.line self.new.field self.new.at) }
-        ensures field { Classified self.old.text.now result }
-    {
+    fn next(&mut self) -> Option<(Field<'a>, Place)> {
         let from = self.at;
-        let to = separator(self.text, from);
-        if to == self.text.len() {
-            return None;
-        }
+        let to = from + field_length(&self.text[from..])?;
         let field = classify(&self.text[from..to]);
         let place = Place {
             line: self.line + 1,

@@ -10,7 +10,7 @@ mod entering;
 pub use entering::read;
 
 // One field of a script: where it stands and what it is.
-#[derive(Clone, Copy)]
+#[derive(Clone, Copy, PartialEq, Eq, Debug)]
 pub struct Entry {
     pub place: Place,
     pub token: Token,

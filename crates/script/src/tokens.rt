@@ -1,12 +1,13 @@
 // What a field is, by its bytes.
 ghost use Rattle.std.specs.Prelude.{◌≡◌};
-ghost use Rattle.script.specs.Tokens.{letter, all_letters, is_name, token_of, token_in, bytes_in};
+ghost use Rattle.std.specs.List.{list_all};
+ghost use Rattle.script.specs.Tokens.{letter, is_name, token_of, token_in, bytes_in};
 
 use crate::numbers::{Number, number_of};
 use crate::words::{Word, word_of};
 
 // A field as a part of the text.
-#[derive(Clone, Copy)]
+#[derive(Clone, Copy, PartialEq, Eq, Debug)]
 pub enum Field<'a> {
     Word(Word, &'a [u8]),
     Name(&'a [u8]),
@@ -16,7 +17,7 @@ pub enum Field<'a> {
 }
 
 // What a field is, without its bytes.
-#[derive(Clone, Copy)]
+#[derive(Clone, Copy, PartialEq, Eq, Debug)]
 pub enum Token {
     Word(Word),
     Name,
@@ -25,28 +26,18 @@ pub enum Token {
     Other,
 }
 
-fn is_letter(b: u8) -> bool
-    ensures { result ≡ letter b }
-{
-    b >= b'a' && b <= b'z'
-}
-
 fn all_letters(bytes: &[u8]) -> bool
-    ensures { result ≡ all_letters bytes.now }
+    ensures { result ≡ list_all letter bytes.now }
 {
-    for b in bytes {
-        if !is_letter(*b) {
-            return false;
-        }
-    }
-    true
+    bytes.iter().all(u8::is_ascii_lowercase)
 }
 
 // 1 to 8 lower-case letters. (Reserved words are told before.)
+#[tactic(auto, using(crate::proofs::Turns::letters_all))]
 fn is_name(bytes: &[u8]) -> bool
     ensures { result ≡ is_name bytes.now }
 {
-    bytes.len() >= 1 && bytes.len() <= 8 && all_letters(bytes)
+    (1..=8).contains(&bytes.len()) && all_letters(bytes)
 }
 
 // The field that these bytes are.
@@ -84,10 +75,10 @@ impl<'a> Field<'a> {
         ensures { result.now ≡ bytes_in self.entry }
     {
         match self {
-            Field::Word(_, bytes) => bytes,
-            Field::Name(bytes) => bytes,
-            Field::Number(_, bytes) => bytes,
-            Field::Other(bytes) => bytes,
+            Field::Word(_, bytes)
+            | Field::Name(bytes)
+            | Field::Number(_, bytes)
+            | Field::Other(bytes) => bytes,
         }
     }
 }

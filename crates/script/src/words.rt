@@ -1,11 +1,10 @@
 // The eighteen reserved words.
 ghost use Rattle.std.specs.Prelude.{◌≡◌};
-ghost use Rattle.std.specs.Str.{bytes_eq};
 ghost use Rattle.script.specs.Spelling.{Spelled, WordsSpelled, WordsKnown};
 ghost use Rattle.script.specs.Words.{line_word, operator, word_of, is_item, is_one};
 
 // The eight words that begin a line.
-#[derive(Clone, Copy)]
+#[derive(Clone, Copy, PartialEq, Eq, Debug)]
 pub enum LineWord {
     Var,
     Set,
@@ -18,7 +17,7 @@ pub enum LineWord {
 }
 
 // The nine words among items, which work on the results before them.
-#[derive(Clone, Copy)]
+#[derive(Clone, Copy, PartialEq, Eq, Debug)]
 pub enum Operator {
     Add,
     Sub,
@@ -31,7 +30,7 @@ pub enum Operator {
     Not,
 }
 
-#[derive(Clone, Copy)]
+#[derive(Clone, Copy, PartialEq, Eq, Debug)]
 pub enum Word {
     Line(LineWord),
     Item(Operator),
@@ -39,35 +38,20 @@ pub enum Word {
     One,
 }
 
-// Whether the bytes are these letters.
-fn spells(bytes: &[u8], letters: &[u8]) -> bool
-    ensures { result ≡ bytes_eq bytes.now letters.now }
-{
-    bytes == letters
-}
-
 // The line word that these bytes spell.
 fn line_word(bytes: &[u8]) -> Option<LineWord>
     ensures { result ≡ line_word bytes.now }
 {
-    if spells(bytes, b"var") {
-        Some(LineWord::Var)
-    } else if spells(bytes, b"set") {
-        Some(LineWord::Set)
-    } else if spells(bytes, b"run") {
-        Some(LineWord::Run)
-    } else if spells(bytes, b"rate") {
-        Some(LineWord::Rate)
-    } else if spells(bytes, b"if") {
-        Some(LineWord::If)
-    } else if spells(bytes, b"else") {
-        Some(LineWord::Else)
-    } else if spells(bytes, b"while") {
-        Some(LineWord::While)
-    } else if spells(bytes, b"end") {
-        Some(LineWord::End)
-    } else {
-        None
+    match bytes {
+        b"var" => Some(LineWord::Var),
+        b"set" => Some(LineWord::Set),
+        b"run" => Some(LineWord::Run),
+        b"rate" => Some(LineWord::Rate),
+        b"if" => Some(LineWord::If),
+        b"else" => Some(LineWord::Else),
+        b"while" => Some(LineWord::While),
+        b"end" => Some(LineWord::End),
+        _ => None,
     }
 }
 
@@ -75,33 +59,29 @@ fn line_word(bytes: &[u8]) -> Option<LineWord>
 fn operator_of(bytes: &[u8]) -> Option<Operator>
     ensures { result ≡ operator bytes.now }
 {
-    if spells(bytes, b"add") {
-        Some(Operator::Add)
-    } else if spells(bytes, b"sub") {
-        Some(Operator::Sub)
-    } else if spells(bytes, b"mul") {
-        Some(Operator::Mul)
-    } else if spells(bytes, b"div") {
-        Some(Operator::Div)
-    } else if spells(bytes, b"lt") {
-        Some(Operator::Lt)
-    } else if spells(bytes, b"le") {
-        Some(Operator::Le)
-    } else if spells(bytes, b"and") {
-        Some(Operator::And)
-    } else if spells(bytes, b"or") {
-        Some(Operator::Or)
-    } else if spells(bytes, b"not") {
-        Some(Operator::Not)
-    } else {
-        None
+    match bytes {
+        b"add" => Some(Operator::Add),
+        b"sub" => Some(Operator::Sub),
+        b"mul" => Some(Operator::Mul),
+        b"div" => Some(Operator::Div),
+        b"lt" => Some(Operator::Lt),
+        b"le" => Some(Operator::Le),
+        b"and" => Some(Operator::And),
+        b"or" => Some(Operator::Or),
+        b"not" => Some(Operator::Not),
+        _ => None,
     }
 }
 
 // The reserved word that these bytes spell.
+#[tactic(auto, using(crate::proofs::Spelt::words_spelled, crate::proofs::Spelt::words_known))]
 pub fn word_of(bytes: &[u8]) -> Option<Word>
     ensures word { result ≡ word_of bytes.now }
     ensures letters { Spelled bytes.now result }
+
+    // Bytes spell a reserved word exactly where they are its letters, and each of the eighteen is so spelled.
+    ensures law { WordsSpelled }
+    ensures known { WordsKnown }
 {
     if let Some(word) = line_word(bytes) {
         return Some(Word::Line(word));
@@ -109,10 +89,9 @@ pub fn word_of(bytes: &[u8]) -> Option<Word>
     if let Some(operator) = operator_of(bytes) {
         return Some(Word::Item(operator));
     }
-    if spells(bytes, b"one") {
-        Some(Word::One)
-    } else {
-        None
+    match bytes {
+        b"one" => Some(Word::One),
+        _ => None,
     }
 }
 
@@ -121,27 +100,13 @@ impl Word {
     pub fn is_item(self) -> bool
         ensures { result ≡ is_item self }
     {
-        match self {
-            Word::Item(_) => true,
-            _ => false,
-        }
+        matches!(self, Word::Item(_))
     }
 
     // Is the word `one`.
     pub fn is_one(self) -> bool
         ensures { result ≡ is_one self }
     {
-        match self {
-            Word::One => true,
-            _ => false,
-        }
+        self == Word::One
     }
-}
-
-// Bytes spell a reserved word exactly where they are its letters, and each of the eighteen is so spelled.
-pub fn words_spelled() -> u8
-    ensures law { WordsSpelled }
-    ensures known { WordsKnown }
-{
-    0
 }

@@ -1,16 +1,8 @@
 -- What reading some texts answers, by the definitions. Assumes nothing.
-use Rattle.std.specs.Prelude.{◌≡◌, ℕ, replicate, Ok, Err, codes, Result}
-use Rattle.script.specs.declared.refusals.Refusal.{Refusal}
+use Rattle.std.specs.Prelude.{◌≡◌, replicate, Ok, Err, codes}
 use Rattle.script.specs.declared.refusals.Reason.TheVariants.{TextTooLong, NoLineFeedAtEnd, StrayByte, NoLineWord, FieldCount, FieldForm, TableTooShort}
-use Rattle.script.specs.Refusals.{refused, number_of}
+use Rattle.refusal.specs.Refusals.{refused}
 use Rattle.script.specs.Reading.{read_of}
-use Rattle.script_cases.specs.declared.Answer.{Answer}
-use Rattle.script_cases.specs.declared.Answer.TheVariants as answer
-
--- the answer of a reading by its numbers
-abbrev pub answer_of : Result (ℕ × ℕ) Refusal → Answer
-answer_of (Ok x) = answer.Read x.0 x.1
-answer_of (Err e) = answer.Refused (number_of e.reason) e.line e.field
 
 -- two texts that are accepted, and one for each refusal but that of too many lines
 abbrev pub Examples : Type 0

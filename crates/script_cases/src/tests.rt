@@ -2,9 +2,13 @@
 ghost use Rattle.std.specs.Prelude.{◌<◌};
 
 use super::*;
+use refusal::Numbered;
 use script::{Cursor, Token, Word};
 use std::process::Abort;
 use std::test::Fail;
+
+// The numbers of lines and fields, or the number, line and field of the refusal.
+type Answer = Result<(usize, usize), (u8, usize, usize)>;
 
 #[derive(Clone, Copy)]
 struct Case {
@@ -15,48 +19,40 @@ struct Case {
 fn accepts(text: &'static [u8], lines: usize, fields: usize) -> Case {
     Case {
         text,
-        answer: Answer::Read(lines, fields),
+        answer: Ok((lines, fields)),
     }
 }
 
 fn refuses(text: &'static [u8], number: u8, line: usize, field: usize) -> Case {
     Case {
         text,
-        answer: Answer::Refused(number, line, field),
+        answer: Err((number, line, field)),
     }
 }
 
-// With room for 64 fields.
-fn roomy(text: &[u8]) -> Answer {
-    let mut table = [Entry::BLANK; 64];
-    answer_to(text, &mut table)
+fn numbers_for(text: &[u8], table: &mut [Entry]) -> Answer {
+    answer_to(text, table).map_err(|refusal| (refusal.reason.number(), refusal.line, refusal.field))
 }
 
-// With room for 3 fields.
-fn tight(text: &[u8]) -> Answer {
-    let mut table = [Entry::BLANK; 3];
-    answer_to(text, &mut table)
-}
-
-// With room for every script.
-fn full(text: &[u8]) -> Answer {
-    let mut table = [Entry::BLANK; 4608];
-    answer_to(text, &mut table)
+// With room for so many fields.
+fn with_room<const N: usize>(text: &[u8]) -> Answer
+    requires { N < 5000 }
+{
+    let mut table = [Entry::BLANK; N];
+    numbers_for(text, &mut table)
 }
 
 // Every case is answered as it says.
 fn all(rt: &impl Abort, cases: &[Case]) {
     for case in cases {
-        assert_eq!(rt; roomy(case.text), case.answer);
+        assert_eq!(rt; with_room::<64>(case.text), case.answer);
     }
 }
 
 // Writes the piece over and over.
 fn repeat(out: &mut [u8], piece: &[u8]) {
-    for i in 0..out.len() {
-        if piece.len() > 0 {
-            out[i] = piece[i % piece.len()];
-        }
+    for (slot, b) in out.iter_mut().zip(piece.iter().cycle()) {
+        *slot = *b;
     }
 }
 
@@ -83,10 +79,10 @@ fn accepted(rt: HostRuntime) {
 fn format_examples(rt: HostRuntime) {
     let ramp: &[u8] =
         b"var,p,0\nvar,v,0\nrun,10\nrate,p,1,v\nrate,v,2,one\nrun,10\nrate,p,1,v\nrate,v,-2,one\n";
-    assert_eq!(rt; full(ramp), Answer::Read(8, 26));
+    assert_eq!(rt; with_room::<4608>(ramp), Ok((8, 26)));
     let throws: &[u8] =
         b"var,p,0\nvar,v,0\nvar,a,0\nvar,n,3\nwhile,0,n,lt\nif,n,1,le\nset,a,1/5\nelse\nset,a,2/5\nend\nrun,10\nrate,p,1,v\nrate,v,1,a\nrun,20\nrate,p,1,v\nrate,v,-1,a\nrun,10\nrate,p,1,v\nrate,v,1,a\nset,n,n,1,sub\nend\nrun,50\n";
-    assert_eq!(rt; full(throws), Answer::Read(22, 66));
+    assert_eq!(rt; with_room::<4608>(throws), Ok((22, 66)));
 }
 
 #[test]
@@ -254,39 +250,39 @@ fn repeated<const N: usize>(piece: &[u8]) -> Answer
 {
     let mut text = [0u8; N];
     repeat(&mut text, piece);
-    full(&text)
+    with_room::<4608>(&text)
 }
 
 #[test]
 fn bytes(rt: HostRuntime) {
     let line: &[u8] = b"run,2147483647,2147483647,2147483647,2147483647,2147483647,1234\n";
-    assert_eq!(rt; repeated::<16384>(line), Answer::Read(256, 1792));
-    assert_eq!(rt; repeated::<16385>(line), Answer::Refused(1, 0, 0));
-    assert_eq!(rt; repeated::<16383>(line), Answer::Refused(2, 256, 0));
+    assert_eq!(rt; repeated::<16384>(line), Ok((256, 1792)));
+    assert_eq!(rt; repeated::<16385>(line), Err((1, 0, 0)));
+    assert_eq!(rt; repeated::<16383>(line), Err((2, 256, 0)));
 }
 
 #[test]
 fn lines(rt: HostRuntime) {
-    assert_eq!(rt; repeated::<1024>(b"end\n"), Answer::Read(256, 256));
-    assert_eq!(rt; repeated::<1028>(b"end\n"), Answer::Refused(4, 257, 0));
-    assert_eq!(rt; repeated::<1027>(b"end\n"), Answer::Refused(2, 257, 0));
-    assert_eq!(rt; repeated::<257>(b"\n"), Answer::Refused(4, 257, 0));
-    assert_eq!(rt; repeated::<256>(b"\n"), Answer::Refused(5, 1, 1));
+    assert_eq!(rt; repeated::<1024>(b"end\n"), Ok((256, 256)));
+    assert_eq!(rt; repeated::<1028>(b"end\n"), Err((4, 257, 0)));
+    assert_eq!(rt; repeated::<1027>(b"end\n"), Err((2, 257, 0)));
+    assert_eq!(rt; repeated::<257>(b"\n"), Err((4, 257, 0)));
+    assert_eq!(rt; repeated::<256>(b"\n"), Err((5, 1, 1)));
 }
 
 #[test]
 fn the_table(rt: HostRuntime) {
-    assert_eq!(rt; tight(b"var,x,0\n"), Answer::Read(1, 3));
-    assert_eq!(rt; tight(b"run,1\nrun,1\n"), Answer::Refused(8, 0, 0));
-    assert_eq!(rt; tight(b"run,1\nfoo,1\n"), Answer::Refused(5, 2, 1));
+    assert_eq!(rt; with_room::<3>(b"var,x,0\n"), Ok((1, 3)));
+    assert_eq!(rt; with_room::<3>(b"run,1\nrun,1\n"), Err((8, 0, 0)));
+    assert_eq!(rt; with_room::<3>(b"run,1\nfoo,1\n"), Err((5, 2, 1)));
     let mut none: [Entry; 0] = [];
-    assert_eq!(rt; answer_to(b"", &mut none), Answer::Read(0, 0));
-    assert_eq!(rt; answer_to(b"end\n", &mut none), Answer::Refused(8, 0, 0));
+    assert_eq!(rt; numbers_for(b"", &mut none), Ok((0, 0)));
+    assert_eq!(rt; numbers_for(b"end\n", &mut none), Err((8, 0, 0)));
     let mut text = [0u8; 9728];
     repeat(&mut text, b"set,x,1,1,1,1,1,1,1,1,1,1,1,1,1,1,1,1\n");
-    assert_eq!(rt; full(&text), Answer::Read(256, 4608));
+    assert_eq!(rt; with_room::<4608>(&text), Ok((256, 4608)));
     let mut short = [Entry::BLANK; 4607];
-    assert_eq!(rt; answer_to(&text, &mut short), Answer::Refused(8, 0, 0));
+    assert_eq!(rt; numbers_for(&text, &mut short), Err((8, 0, 0)));
 }
 
 // The kind of an entry by its first letter.
@@ -305,7 +301,7 @@ fn letter(token: Token) -> char {
 fn entries(rt: HostRuntime) -> Result<(), Fail> {
     let text: &[u8] = b"var,p,-3/4\nrun,p,2,mul\nrate,p,1,one\n";
     let mut table = [Entry::BLANK; 12];
-    assert_eq!(rt; answer_to(text, &mut table), Answer::Read(3, 11));
+    assert_eq!(rt; numbers_for(text, &mut table), Ok((3, 11)));
     let last = table[10];
     assert_eq!(rt; last.place.line, 3);
     assert_eq!(rt; last.place.field, 4);
@@ -325,11 +321,8 @@ fn entries(rt: HostRuntime) -> Result<(), Fail> {
 #[test]
 fn refused_leaves_the_table(rt: HostRuntime) {
     let mut table = [Entry::BLANK; 3];
-    assert_eq!(rt; answer_to(b"var,x,1\n", &mut table), Answer::Read(1, 3));
-    assert_eq!(rt;
-        answer_to(b"end\nvar,x,y\n", &mut table),
-        Answer::Refused(7, 2, 3)
-    );
+    assert_eq!(rt; numbers_for(b"var,x,1\n", &mut table), Ok((1, 3)));
+    assert_eq!(rt; numbers_for(b"end\nvar,x,y\n", &mut table), Err((7, 2, 3)));
     assert_eq!(rt; table[0].place.line, 1);
     assert_eq!(rt; table[2].place.from, 6);
     assert_eq!(rt; letter(table[2].token), '#');
@@ -337,10 +330,8 @@ fn refused_leaves_the_table(rt: HostRuntime) {
 
 // The line, the number and the length of the next field.
 fn step(cursor: &mut Cursor) -> Option<(usize, usize, usize)> {
-    match cursor.next() {
-        Some((field, place)) => Some((place.line, place.field, field.bytes().len())),
-        None => None,
-    }
+    let (field, place) = cursor.next()?;
+    Some((place.line, place.field, field.bytes().len()))
 }
 
 #[test]

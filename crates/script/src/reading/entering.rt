@@ -2,7 +2,7 @@
 ghost use Rattle.std.specs.Prelude.{◌≡◌, ℕ, ◌≤◌, length, take, IfOk, MatchResult, OnOk};
 ghost use Rattle.script.specs.Places.{places};
 ghost use Rattle.script.specs.Lines.{rows, written};
-ghost use Rattle.script.specs.Reading.{put, read_of, scan_of, summary, table_after, filled};
+ghost use Rattle.script.specs.Reading.{read_of, scan_of, summary, filled};
 ghost use Rattle.script.specs.Laws.{Told, Alone, Entered};
 
 use super::{Draft, Entry};
@@ -12,32 +12,25 @@ use crate::refusals::{Reason, Refusal};
 
 fn write_entries(text: &[u8], table: &mut [Entry])
     requires { length (places text.now) ≤ length table.old }
-    ensures { table.new ≡ put text.now 0 (places text.now) table.old }
+    ensures { table.new ≡ filled text.now table.old }
 {
-    let mut cursor = Cursor::new(text);
-    let mut i: usize = 0;
-    while let Some((field, place)) = cursor.next() {
+    for (i, (field, place)) in Cursor::new(text).enumerate() {
         table[i] = Entry {
             place,
             token: field.token(),
         };
-        i += 1;
     }
 }
 
 fn read_checked<'t>(text: &'t [u8], table: &mut [Entry]) -> Result<Draft<'t>, Refusal>
     ensures answer { summary result ≡ scan_of text.now (length table.old) }
-    ensures table { table.new ≡ table_after (scan_of text.now (length table.old)) text.now table.old }
+    ensures table { MatchResult result (λ _. table.new ≡ filled text.now table.old) (λ _. table.new ≡ table.old) }
     ensures text { IfOk result (λ d. d.text.now ≡ text.now) }
 {
     let lines = check_text(text)?;
     let fields = check_lines(text)?;
     if fields > table.len() {
-        return Err(Refusal {
-            reason: Reason::TableTooShort,
-            line: 0,
-            field: 0,
-        });
+        return Err(Refusal::new(Reason::TableTooShort, 0, 0));
     }
     write_entries(text, table);
     Ok(Draft {

@@ -6,9 +6,9 @@ use Rattle.script.proofs.checks.check_lines.Given as goal
 
 abbrev pub invariant-loop-field : goal.invariant-loop-field
 invariant-loop-field l =
-    (l.cursor.text.now ≡ l.text) ×
-    (line_check l.text ≡ scan l.line l.fields (map (cell_at l.text) (ahead l.text l.cursor))) ×
-    (l.fields + length (ahead l.text l.cursor) ≡ length (places l.text))
+    (l.field-iterator.text.now ≡ l.text) ×
+    (line_check l.text ≡ scan l.line l.fields (map (cell_at l.text) (ahead l.text l.field-iterator))) ×
+    (l.fields + length (ahead l.text l.field-iterator) ≡ length (places l.text))
 
 abbrev pub decreases-loop-field : goal.decreases-loop-field
-decreases-loop-field l = length (ahead l.text l.cursor)
+decreases-loop-field l = length (ahead l.text l.field-iterator)

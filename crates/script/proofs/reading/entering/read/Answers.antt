@@ -1,6 +1,6 @@
 use Rattle.std.proofs.Common.{length}
 use Rattle.script.proofs.Verdict.{alone}
-use Rattle.script.proofs.Answered.{answer, rules, again, fills, entered}
+use Rattle.script.proofs.Answered.{answer, rules, again, entered}
 use Rattle.script.proofs.reading.entering.read.Goals as goal
 
 pub returns : goal.returns
@@ -11,7 +11,7 @@ returns c =
     let table = c.args.table.now in
     record {
       answer = answer text (length table) _ e;
-      table = fills text table _ _ e a;
+      table = a;
       text = c.read_checked.ensures.text;
       rules = rules text (length table) _ e;
       alone = alone text (length table);
