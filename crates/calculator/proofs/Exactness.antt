@@ -7,13 +7,14 @@ use Rattle.number.specs.declared.Fault.TheVariants.{NotHeld, ZeroDivisor}
 use Rattle.number.specs.Frac.{Frac, norm, add, sub, mul, div, scale, less, at_most}
 use Rattle.number.specs.Kind.{Holds, held, then, taken, of_one, of_two, exact2, divided, scaled, asked2, is_naught}
 use Rattle.number.proofs.Answered.{err_ok, held_ok, exact2_means, scaled_means}
-use Rattle.calculator.specs.declared.reading.Operation.{Operation}
-use Rattle.calculator.specs.declared.reading.Operation.TheVariants.{Add, Sub, Mul, Div, Lt, Le}
+use Rattle.number.specs.declared.Operation.{Operation}
+use Rattle.number.specs.declared.Operation.TheVariants.{Add, Sub, Mul, Div, Lt, Le}
+use Rattle.number.specs.declared.Answer.TheVariants as answer
 use Rattle.calculator.specs.declared.reading.Question.{Question}
 use Rattle.calculator.specs.declared.reading.Question.TheVariants.{Take, Two, Scale}
 use Rattle.calculator.specs.declared.answering.Reply.{Reply}
 use Rattle.calculator.specs.declared.answering.Reply.TheVariants.{Number, Truth}
-use Rattle.calculator.specs.Answering.{told, replied2, replied, written, number_reply, exactly2, exactly, Exact}
+use Rattle.calculator.specs.Answering.{told, told_answer, replied2, replied, written, number_reply, exactly2, exactly, Exact}
 
 -- a reply that is a, if it is one
 abbrev Is : Reply → Result Reply Fault → Type 0
@@ -49,13 +50,22 @@ module _ (means : Pair → Option Frac) (code : Frac → Option Pair) (laws : Ho
   asked_is test p q x y t ex ey h =
       let e : Ok (test x y) ≡ Ok t = sym (ap₂ (of_two (λ u v. Ok (test u v))) ex ey) ∙ h in cc
 
+  -- an operation that came to a number, and one that came to a truth
+  as_number : (a : Reply) (r : Result Pair Fault) → Is a (then r (told means)) → Is a (then (then r (λ s. Ok (answer.Number s))) (told_answer means))
+  as_number a (Ok s) h = h
+  as_number a (Err e) h = h
+
+  as_truth : (a : Reply) (r : Result Bool Fault) → Is a (then r (λ t. Ok (Truth t))) → Is a (then (then r (λ t. Ok (answer.Truth t))) (told_answer means))
+  as_truth a (Ok t) h = h
+  as_truth a (Err e) h = h
+
   is_two : (o : Operation) (p q : Pair) (x y : Frac) → means p ≡ Some x → means q ≡ Some y → Is (exactly2 o x y) (replied2 means code o p q)
-  is_two Add p q x y ex ey = after _ (exact2 means code add p q) (told means) (λ s e. is_told s (add x y) (exact2_means means code laws add p q s x y ex ey e))
-  is_two Sub p q x y ex ey = after _ (exact2 means code sub p q) (told means) (λ s e. is_told s (sub x y) (exact2_means means code laws sub p q s x y ex ey e))
-  is_two Mul p q x y ex ey = after _ (exact2 means code mul p q) (told means) (λ s e. is_told s (mul x y) (exact2_means means code laws mul p q s x y ex ey e))
-  is_two Div p q x y ex ey = after _ (divided means code p q) (told means) (λ s e. is_told s (div x y) (divided_means p q s x y ex ey e))
-  is_two Lt p q x y ex ey = after _ (asked2 means less p q) (λ t. Ok (Truth t)) (λ t e. ap Truth (asked_is less p q x y t ex ey e))
-  is_two Le p q x y ex ey = after _ (asked2 means at_most p q) (λ t. Ok (Truth t)) (λ t e. ap Truth (asked_is at_most p q x y t ex ey e))
+  is_two Add p q x y ex ey = as_number _ (exact2 means code add p q) (after _ (exact2 means code add p q) (told means) (λ s e. is_told s (add x y) (exact2_means means code laws add p q s x y ex ey e)))
+  is_two Sub p q x y ex ey = as_number _ (exact2 means code sub p q) (after _ (exact2 means code sub p q) (told means) (λ s e. is_told s (sub x y) (exact2_means means code laws sub p q s x y ex ey e)))
+  is_two Mul p q x y ex ey = as_number _ (exact2 means code mul p q) (after _ (exact2 means code mul p q) (told means) (λ s e. is_told s (mul x y) (exact2_means means code laws mul p q s x y ex ey e)))
+  is_two Div p q x y ex ey = as_number _ (divided means code p q) (after _ (divided means code p q) (told means) (λ s e. is_told s (div x y) (divided_means p q s x y ex ey e)))
+  is_two Lt p q x y ex ey = as_truth _ (asked2 means less p q) (after _ (asked2 means less p q) (λ t. Ok (Truth t)) (λ t e. ap Truth (asked_is less p q x y t ex ey e)))
+  is_two Le p q x y ex ey = as_truth _ (asked2 means at_most p q) (after _ (asked2 means at_most p q) (λ t. Ok (Truth t)) (λ t e. ap Truth (asked_is at_most p q x y t ex ey e)))
 
   is_reply : (q : Question) → Is (exactly q) (replied means code q)
   is_reply (Take x) = after _ (taken means code x.n x.d) (told means) (λ p e. is_told p (written x) (taken_means x.n x.d p e))

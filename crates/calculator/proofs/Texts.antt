@@ -1,8 +1,8 @@
 -- What the text functions of the library answer, in the words of the reading.
-use Rattle.std.proofs.Common.{◌≡◌, ℕ, suc, ◌^◌, ◌<◌, Bool, true, false, cond, ◌&&◌, T, eqb, ltb, List, [], ◌∷◌, ◌++◌, length, get_or, ℤ, pos, negsuc, Some, None, Ok, Err, codes, Option, Result, sym, refl, ap, ◌∙◌, subst, arith, le→leb, eqb→eq, leb→le, w64, Bor}
+use Rattle.std.proofs.Common.{◌≡◌, ℕ, suc, ◌^◌, ◌<◌, Bool, true, cond, ◌&&◌, T, eqb, ltb, List, [], ◌∷◌, ◌++◌, length, get_or, ℤ, Some, None, Ok, Err, Option, Result, sym, refl, ap, ◌∙◌, subst, arith, le→leb, eqb→eq, leb→le, w64, Bor}
 use lib.Dec.{eqb_refl}
 use lib.Signed.{mag}
-use Rattle.std.specs.Result.{OkIff, result_ok}
+use Rattle.std.specs.Result.{OkIff, MatchResult, IsErrAnd, result_ok}
 use Rattle.std.specs.Option.{option_map}
 use Rattle.std.specs.Str.Parse.{IsNumeral, without_leading_plus, without_leading_sign, digits_value, signed_digits_value, ParsesUnsigned, ParsesSigned}
 use Rattle.std.specs.Str.{all_ascii_digits}
@@ -10,8 +10,6 @@ use Rattle.std.proofs.lemmas.Str.Parse.{IsNumeralModel, numerals_by_value, tells
 use Rattle.std.proofs.lemmas.Str.Pattern.{IsSplitOnceResult, split_parts}
 use Rattle.number.proofs.Tests.{is_true, is_false, two_t, join_t}
 use Rattle.calculator.specs.Reading.{both_now, onto, parted, numeral, integer_of, natural_of}
-use Rattle.std.specs.Fmt.{signed_decimal}
-use Rattle.calculator.specs.Lines.{is_one, terms_text}
 
 -- ---- parts
 parted_at : (c : ℕ) (xs ys : List ℕ) → ((i : ℕ) → i < length xs → get_or xs i 0 ≡ c → ⊥) → parted c (xs ++ (c ∷ ys)) ≡ Some (xs, ys)
@@ -60,9 +58,8 @@ natural_is bs r h =
     converted_is r _ n (numeral ds && ltb n (2 ^ 32)) (λ p. join_t (numeral ds) (ltb n (2 ^ 32)) (to_numeral ds p.0) (le→leb (suc n) (2 ^ 32) p.1))
     (λ t. let s = two_t (numeral ds) (ltb n (2 ^ 32)) t in (from_numeral ds s.0, leb→le (suc n) (2 ^ 32) s.1)) h
 
-not_one : (d : ℤ) → ¬ (d ≡ pos 1) → is_one d ≡ false
-not_one (pos n) h = is_false (eqb n 1) (λ t. h (ap pos (eqb→eq n 1 t)))
-not_one (negsuc n) h = refl
-
-pub text_over : (n d : ℤ) → ¬ (d ≡ pos 1) → terms_text n d ≡ signed_decimal n ++ (codes "/" ++ signed_decimal d)
-text_over n d h = ap (λ b. cond b (signed_decimal n) (signed_decimal n ++ (codes "/" ++ signed_decimal d))) (not_one d h)
+-- another error in place of the first
+pub mapped_ok : {V E D : Type 0} (r : Result V E) (s : Result V D) (P : E → D → Type 0) → MatchResult r (λ x. s ≡ Ok x) (λ e. IsErrAnd s (P e)) → result_ok s ≡ result_ok r
+mapped_ok (Ok x) s P h = ap result_ok h
+mapped_ok (Err e) (Err d) P h = refl
+mapped_ok (Err e) (Ok y) P h = absurd h

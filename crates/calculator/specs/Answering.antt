@@ -3,14 +3,16 @@ use Rattle.std.specs.Prelude.{◌≡◌, pos, Ok, Err, Option, Result, unsigned_
 use Rattle.number.specs.declared.Pair.{Pair}
 use Rattle.number.specs.declared.Fault.{Fault}
 use Rattle.number.specs.Frac.{Frac, norm, add, sub, mul, div, scale, less, at_most}
-use Rattle.number.specs.Kind.{then, taken, exact2, divided, scaled, in_terms, asked2}
+use Rattle.number.specs.Kind.{then, taken, scaled, in_terms, applied}
 use Rattle.kinds.specs.Fractions.{frac_of, pair_of}
 use Rattle.kinds.specs.Thousandths.{thousand_of, count_of}
 use Rattle.kinds.specs.Small.{small_of, small_pair}
 use Rattle.calculator.specs.declared.reading.KindName.{KindName}
 use Rattle.calculator.specs.declared.reading.KindName.TheVariants.{Fractions, Thousandths, Small}
-use Rattle.calculator.specs.declared.reading.Operation.{Operation}
-use Rattle.calculator.specs.declared.reading.Operation.TheVariants.{Add, Sub, Mul, Div, Lt, Le}
+use Rattle.number.specs.declared.Operation.{Operation}
+use Rattle.number.specs.declared.Operation.TheVariants.{Add, Sub, Mul, Div, Lt, Le}
+use Rattle.number.specs.declared.Answer.{Answer}
+use Rattle.number.specs.declared.Answer.TheVariants as answer
 use Rattle.calculator.specs.declared.reading.Ratio.{Ratio}
 use Rattle.calculator.specs.declared.reading.Question.{Question}
 use Rattle.calculator.specs.declared.reading.Question.TheVariants.{Take, Two, Scale}
@@ -21,15 +23,15 @@ use Rattle.calculator.specs.declared.answering.Reply.TheVariants.{Number, Truth}
 abbrev pub told : (Pair → Option Frac) → Pair → Result Reply Fault
 told means p = then (in_terms means p) (λ t. Ok (Number t.0 t.1))
 
+-- what an operation came to, as a reply
+abbrev pub told_answer : (Pair → Option Frac) → Answer → Result Reply Fault
+told_answer means (answer.Number p) = told means p
+told_answer means (answer.Truth t) = Ok (Truth t)
+
 module _ (means : Pair → Option Frac) (code : Frac → Option Pair) where
   -- the reply to an operation on two numbers of the kind
   abbrev pub replied2 : Operation → Pair → Pair → Result Reply Fault
-  replied2 Add p q = then (exact2 means code add p q) (told means)
-  replied2 Sub p q = then (exact2 means code sub p q) (told means)
-  replied2 Mul p q = then (exact2 means code mul p q) (told means)
-  replied2 Div p q = then (divided means code p q) (told means)
-  replied2 Lt p q = then (asked2 means less p q) (λ t. Ok (Truth t))
-  replied2 Le p q = then (asked2 means at_most p q) (λ t. Ok (Truth t))
+  replied2 o p q = then (applied means code o p q) (told_answer means)
 
   -- the reply to a question: its fractions are taken, and then worked on
   abbrev pub replied : Question → Result Reply Fault

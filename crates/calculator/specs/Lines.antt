@@ -1,31 +1,18 @@
 -- What is printed for a line.
-use Rattle.std.specs.Prelude.{ℕ, Bool, true, false, cond, List, ◌++◌, ℤ, pos, negsuc, Some, None, Ok, Err, codes, Option, Result, ◌==◌}
-use Rattle.std.specs.Fmt.{signed_decimal}
+use Rattle.std.specs.Prelude.{ℕ, List, Some, None, Ok, Err, codes, Option, Result}
 use Rattle.number.specs.declared.Fault.{Fault}
-use Rattle.number.specs.declared.Fault.TheVariants.{NotHeld, ZeroDivisor}
+use Rattle.number.specs.Fault.{fault_text}
 use Rattle.calculator.specs.declared.reading.KindName.{KindName}
 use Rattle.calculator.specs.declared.reading.Question.{Question}
 use Rattle.calculator.specs.declared.answering.Reply.{Reply}
-use Rattle.calculator.specs.declared.answering.Reply.TheVariants.{Number, Truth}
 use Rattle.calculator.specs.Reading.{read_of}
 use Rattle.calculator.specs.Answering.{replied_in}
+use Rattle.calculator.specs.Texts.{reply_text}
 
--- is it 1
-abbrev pub is_one : ℤ → Bool
-is_one (pos d) = d == 1
-is_one (negsuc d) = false
-
--- n / d, and n alone over 1
-abbrev pub terms_text : ℤ → ℤ → List ℕ
-terms_text n d = cond (is_one d) (signed_decimal n) (signed_decimal n ++ (codes "/" ++ signed_decimal d))
-
--- the text of a reply
+-- the text of an answer
 abbrev pub shown : Result Reply Fault → List ℕ
-shown (Ok (Number n d)) = terms_text n d
-shown (Ok (Truth true)) = codes "true"
-shown (Ok (Truth false)) = codes "false"
-shown (Err NotHeld) = codes "not held"
-shown (Err ZeroDivisor) = codes "zero divisor"
+shown (Ok reply) = reply_text reply
+shown (Err fault) = fault_text fault
 
 -- the text of what was read
 abbrev pub answered_to : Option (KindName × Question) → List ℕ

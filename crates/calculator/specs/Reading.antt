@@ -6,8 +6,8 @@ use Rattle.std.specs.Str.Parse.{without_leading_plus, without_leading_sign, digi
 use Rattle.std.specs.Str.{all_ascii_digits, bytes_eq}
 use Rattle.calculator.specs.declared.reading.KindName.{KindName}
 use Rattle.calculator.specs.declared.reading.KindName.TheVariants.{Fractions, Thousandths, Small}
-use Rattle.calculator.specs.declared.reading.Operation.{Operation}
-use Rattle.calculator.specs.declared.reading.Operation.TheVariants.{Add, Sub, Mul, Div, Lt, Le}
+use Rattle.number.specs.declared.Operation.{Operation}
+use Rattle.number.specs.declared.Operation.TheVariants.{Add, Sub, Mul, Div, Lt, Le}
 use Rattle.calculator.specs.declared.reading.Ratio.{Ratio}
 use Rattle.calculator.specs.declared.reading.Question.{Question}
 use Rattle.calculator.specs.declared.reading.Question.TheVariants.{Take, Two, Scale}
@@ -84,6 +84,10 @@ kind_of w =
     (cond (bytes_eq w (codes "thousandths")) (Some Thousandths)
     (cond (bytes_eq w (codes "small")) (Some Small) None))
 
+-- `WORD,..`
+abbrev pub question_from : List ℕ → Option Question
+question_from bs = if_some (parted 44 bs) (λ q. question_of q.0 q.1)
+
 -- `KIND,WORD,..`
 abbrev pub read_of : List ℕ → Option (KindName × Question)
-read_of line = if_some (parted 44 line) (λ p. if_some (parted 44 p.1) (λ q. if_some (kind_of p.0) (λ k. if_some (question_of q.0 q.1) (λ x. Some (k, x)))))
+read_of line = if_some (parted 44 line) (λ p. if_some (kind_of p.0) (λ k. if_some (question_from p.1) (λ x. Some (k, x))))

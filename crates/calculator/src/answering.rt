@@ -1,15 +1,30 @@
 // Puts a question to a kind of number.
-ghost use Rattle.std.specs.Prelude.{◌≡◌};
-ghost use Rattle.calculator.specs.Answering.{Exact, told, replied2, replied};
+ghost use Rattle.std.specs.Prelude.{◌≡◌, Some};
+ghost use Rattle.calculator.specs.Answering.{Exact, told, replied};
+ghost use Rattle.calculator.specs.Texts.{reply_text};
 
-use super::reading::{Operation, Question};
-use number::{Fault, Kind, Pair};
+use super::reading::Question;
+use number::{Answer, Fault, Kind, Pair};
+use std::fmt;
 
 // What a kind answers: lowest terms, or a truth.
-#[derive(Clone, Copy)]
+#[derive(Clone, Copy, PartialEq, Eq, Debug)]
 pub enum Reply {
     Number(i64, i64),
     Truth(bool),
+}
+
+// A whole number is printed without slash.
+impl fmt::Display for Reply {
+    ghost output = { λ reply. Some (reply_text reply) };
+
+    fn fmt<W: fmt::Write>(&self, f: &mut fmt::Formatter<W>) -> fmt::Result {
+        match *self {
+            Reply::Number(n, 1) => write!(f, "{n}"),
+            Reply::Number(n, d) => write!(f, "{n}/{d}"),
+            Reply::Truth(t) => write!(f, "{t}"),
+        }
+    }
 }
 
 // The lowest terms of a number.
@@ -18,20 +33,6 @@ fn tell<K: Kind>(p: Pair) -> Result<Reply, Fault>
 {
     let (n, d) = K::terms(p)?;
     Ok(Reply::Number(n, d))
-}
-
-// An operation on two numbers.
-fn respond_to_two<K: Kind>(operation: Operation, p: Pair, q: Pair) -> Result<Reply, Fault>
-    ensures { result ≡ replied2 K.Kind.means K.Kind.code operation p q }
-{
-    match operation {
-        Operation::Add => tell::<K>(K::add(p, q)?),
-        Operation::Sub => tell::<K>(K::sub(p, q)?),
-        Operation::Mul => tell::<K>(K::mul(p, q)?),
-        Operation::Div => tell::<K>(K::div(p, q)?),
-        Operation::Lt => Ok(Reply::Truth(K::lt(p, q)?)),
-        Operation::Le => Ok(Reply::Truth(K::le(p, q)?)),
-    }
 }
 
 // The fractions are taken, and then worked on.
@@ -43,7 +44,10 @@ fn work<K: Kind>(question: Question) -> Result<Reply, Fault>
         Question::Two(operation, x, y) => {
             let p = K::take(x.n, x.d)?;
             let q = K::take(y.n, y.d)?;
-            respond_to_two::<K>(operation, p, q)
+            match operation.apply::<K>(p, q)? {
+                Answer::Number(s) => tell::<K>(s),
+                Answer::Truth(t) => Ok(Reply::Truth(t)),
+            }
         }
         Question::Scale(x, n, k) => {
             let p = K::take(x.n, x.d)?;

@@ -4,14 +4,14 @@
 ghost use Rattle.std.specs.Prelude.{◌≡◌, IfOk, string_bytes};
 ghost use Rattle.calculator.specs.Answering.{Exact, replied_in};
 ghost use Rattle.calculator.specs.Theorems.{Agree, Examples};
-ghost use Rattle.calculator.specs.Lines.{terms_text, shown, answered};
+ghost use Rattle.calculator.specs.Lines.{shown, answered};
 
 use answering::{Reply, respond};
 use kinds::fractions::Fractions;
 use kinds::small::SmallWholes;
 use kinds::thousandths::Thousandths;
 use number::Fault;
-use reading::{KindName, Question, read};
+use reading::{KindName, NotUnderstood, Question, read};
 use std::alloc::{AllocError, Global};
 
 pub mod answering;
@@ -29,26 +29,13 @@ pub fn respond_in(kind: KindName, question: Question) -> Result<Reply, Fault>
     }
 }
 
-// Lowest terms, a whole number without slash.
-fn number_text(heap: Global, n: i64, d: i64) -> Result<String, AllocError>
-    ensures { IfOk result (λ s. string_bytes s ≡ terms_text n d) }
-{
-    if d == 1 {
-        format!(in heap; "{n}")
-    } else {
-        format!(in heap; "{n}/{d}")
-    }
-}
-
 // What is printed of a reply.
 pub fn text(heap: Global, reply: Result<Reply, Fault>) -> Result<String, AllocError>
     ensures { IfOk result (λ s. string_bytes s ≡ shown reply) }
 {
     match reply {
-        Ok(Reply::Number(n, d)) => number_text(heap, n, d),
-        Ok(Reply::Truth(t)) => String::from_str(heap, if t { "true" } else { "false" }),
-        Err(Fault::NotHeld) => String::from_str(heap, "not held"),
-        Err(Fault::ZeroDivisor) => String::from_str(heap, "zero divisor"),
+        Ok(reply) => reply.to_string(heap),
+        Err(fault) => fault.to_string(heap),
     }
 }
 
@@ -58,20 +45,16 @@ pub fn answer(heap: Global, line: &str) -> Result<String, AllocError>
 {
     match read(line) {
         Some((kind, question)) => text(heap, respond_in(kind, question)),
-        None => String::from_str(heap, "not understood"),
+        None => NotUnderstood.to_string(heap),
     }
 }
 
 // Kinds that reply to a question reply the same.
-pub fn kinds_agree() -> u8
+pub fn kinds_agree()
     ensures { Agree }
-{
-    0
-}
+{}
 
 // Lines with their answers, by computing.
-pub fn examples_stand() -> u8
+pub fn examples_stand()
     ensures { Examples }
-{
-    0
-}
+{}

@@ -1,41 +1,58 @@
 // Reads a line as a question to a kind.
 ghost use Rattle.std.specs.Prelude.{◌≡◌, ◌<◌};
 ghost use Rattle.std.specs.Option.{option_map};
-ghost use Rattle.std.specs.Str.{bytes_eq};
-ghost use Rattle.calculator.specs.Reading.{parted, both_now, integer_of, natural_of, ratio_of, two_of, scaling_of, operation_of, question_of, kind_of, read_of};
+ghost use Rattle.std.specs.Result.{result_ok};
+ghost use Rattle.calculator.specs.Reading.{parted, both_now, integer_of, natural_of, ratio_of, two_of, scaling_of, question_from, kind_of, read_of};
+
+use number::Operation;
+use std::error::Error;
+use std::fmt;
+use std::str::FromStr;
+
+// A text that is not understood.
+#[derive(Clone, Copy, PartialEq, Eq, Debug)]
+pub struct NotUnderstood;
+
+impl fmt::Display for NotUnderstood {
+    ghost use Rattle.std.specs.Prelude.{Some, codes};
+
+    ghost output = { λ _. Some (codes "not understood") };
+
+    fn fmt<W: fmt::Write>(&self, f: &mut fmt::Formatter<W>) -> fmt::Result {
+        f.write_str("not understood")
+    }
+}
+
+impl Error for NotUnderstood {}
 
 // A kind by its name.
-#[derive(Clone, Copy)]
+#[derive(Clone, Copy, PartialEq, Eq, Debug)]
 pub enum KindName {
     Fractions,
     Thousandths,
     Small,
 }
 
-// An operation on two numbers.
-#[derive(Clone, Copy)]
-pub enum Operation {
-    Add,
-    Sub,
-    Mul,
-    Div,
-    Lt,
-    Le,
+impl FromStr for KindName {
+    type Err = NotUnderstood;
+
+    ghost from_str_gives = { λ text r. result_ok r ≡ kind_of text };
+
+    fn from_str(text: &str) -> Result<KindName, NotUnderstood> {
+        match text {
+            "fractions" => Ok(KindName::Fractions),
+            "thousandths" => Ok(KindName::Thousandths),
+            "small" => Ok(KindName::Small),
+            _ => Err(NotUnderstood),
+        }
+    }
 }
 
 // A fraction as it is written: n / d.
-#[derive(Clone, Copy)]
+#[derive(Clone, Copy, PartialEq, Eq, Debug)]
 pub struct Ratio {
     pub n: i64,
     pub d: i64,
-}
-
-// What a kind is asked.
-#[derive(Clone, Copy)]
-pub enum Question {
-    Take(Ratio),
-    Two(Operation, Ratio, Ratio),
-    Scale(Ratio, u32, u32),
 }
 
 // The text before and after the first `at`.
@@ -46,102 +63,84 @@ fn part(text: &str, at: char) -> Option<(&str, &str)>
     text.split_once(at)
 }
 
-fn is(text: &str, word: &str) -> bool
-    ensures { result ≡ bytes_eq text.now word.now }
-{
-    text == word
-}
-
 // A whole number of 64 bits.
-fn read_integer(text: &str) -> Option<i64>
-    ensures { result ≡ integer_of text.now }
+fn integer(text: &str) -> Result<i64, NotUnderstood>
+    ensures { result_ok result ≡ integer_of text.now }
 {
-    text.parse::<i64>().ok()
+    text.parse().map_err(|_| NotUnderstood)
 }
 
 // A whole number of 32 bits without minus.
-fn read_natural(text: &str) -> Option<u32>
-    ensures { result ≡ natural_of text.now }
+fn natural(text: &str) -> Result<u32, NotUnderstood>
+    ensures { result_ok result ≡ natural_of text.now }
 {
-    text.parse::<u32>().ok()
+    text.parse().map_err(|_| NotUnderstood)
 }
 
 // `N/D` or `N`.
-fn read_ratio(text: &str) -> Option<Ratio>
-    ensures { result ≡ ratio_of text.now }
-{
-    match part(text, '/') {
-        Some((n, d)) => Some(Ratio {
-            n: read_integer(n)?,
-            d: read_integer(d)?,
-        }),
-        None => Some(Ratio {
-            n: read_integer(text)?,
-            d: 1,
-        }),
+impl FromStr for Ratio {
+    type Err = NotUnderstood;
+
+    ghost from_str_gives = { λ text r. result_ok r ≡ ratio_of text };
+
+    fn from_str(text: &str) -> Result<Ratio, NotUnderstood> {
+        match part(text, '/') {
+            Some((n, d)) => Ok(Ratio {
+                n: integer(n)?,
+                d: integer(d)?,
+            }),
+            None => Ok(Ratio {
+                n: integer(text)?,
+                d: 1,
+            }),
+        }
     }
+}
+
+// What a kind is asked.
+#[derive(Clone, Copy, PartialEq, Eq, Debug)]
+pub enum Question {
+    Take(Ratio),
+    Two(Operation, Ratio, Ratio),
+    Scale(Ratio, u32, u32),
 }
 
 // `X,Y`
-fn read_two(text: &str, operation: Operation) -> Option<Question>
-    ensures { result ≡ two_of text.now operation }
+fn read_two(text: &str, operation: Operation) -> Result<Question, NotUnderstood>
+    ensures { result_ok result ≡ two_of text.now operation }
 {
-    let (p, q) = part(text, ',')?;
-    Some(Question::Two(operation, read_ratio(p)?, read_ratio(q)?))
+    let (p, q) = part(text, ',').ok_or(NotUnderstood)?;
+    Ok(Question::Two(operation, p.parse()?, q.parse()?))
 }
 
 // `X,N,K`
-fn read_scaling(text: &str) -> Option<Question>
-    ensures { result ≡ scaling_of text.now }
+fn read_scaling(text: &str) -> Result<Question, NotUnderstood>
+    ensures { result_ok result ≡ scaling_of text.now }
 {
-    let (p, rest) = part(text, ',')?;
-    let (n, k) = part(rest, ',')?;
-    Some(Question::Scale(read_ratio(p)?, read_natural(n)?, read_natural(k)?))
+    let (p, rest) = part(text, ',').ok_or(NotUnderstood)?;
+    let (n, k) = part(rest, ',').ok_or(NotUnderstood)?;
+    Ok(Question::Scale(p.parse()?, natural(n)?, natural(k)?))
 }
 
-fn read_operation(word: &str) -> Option<Operation>
-    ensures { result ≡ operation_of word.now }
-{
-    if is(word, "add") {
-        Some(Operation::Add)
-    } else if is(word, "sub") {
-        Some(Operation::Sub)
-    } else if is(word, "mul") {
-        Some(Operation::Mul)
-    } else if is(word, "div") {
-        Some(Operation::Div)
-    } else if is(word, "lt") {
-        Some(Operation::Lt)
-    } else if is(word, "le") {
-        Some(Operation::Le)
-    } else {
-        None
-    }
-}
+// `WORD,..`
+impl FromStr for Question {
+    type Err = NotUnderstood;
 
-fn read_question(word: &str, text: &str) -> Option<Question>
-    ensures { result ≡ question_of word.now text.now }
-{
-    if is(word, "take") {
-        Some(Question::Take(read_ratio(text)?))
-    } else if is(word, "scale") {
-        read_scaling(text)
-    } else {
-        read_two(text, read_operation(word)?)
-    }
-}
+    ghost from_str_gives = { λ text r. result_ok r ≡ question_from text };
 
-fn read_kind(word: &str) -> Option<KindName>
-    ensures { result ≡ kind_of word.now }
-{
-    if is(word, "fractions") {
-        Some(KindName::Fractions)
-    } else if is(word, "thousandths") {
-        Some(KindName::Thousandths)
-    } else if is(word, "small") {
-        Some(KindName::Small)
-    } else {
-        None
+    fn from_str(text: &str) -> Result<Question, NotUnderstood> {
+        let (word, rest) = part(text, ',').ok_or(NotUnderstood)?;
+        match word {
+            "take" => Ok(Question::Take(rest.parse()?)),
+            "scale" => read_scaling(rest),
+            "add" => read_two(rest, Operation::Add),
+            "sub" => read_two(rest, Operation::Sub),
+            "mul" => read_two(rest, Operation::Mul),
+            "div" => read_two(rest, Operation::Div),
+            "lt" => read_two(rest, Operation::Lt),
+            "le" => read_two(rest, Operation::Le),
+            _ => Err(NotUnderstood),
+        }
     }
 }
 
@@ -150,6 +149,5 @@ pub fn read(line: &str) -> Option<(KindName, Question)>
     ensures { result ≡ read_of line.now }
 {
     let (name, rest) = part(line, ',')?;
-    let (word, text) = part(rest, ',')?;
-    Some((read_kind(name)?, read_question(word, text)?))
+    Some((name.parse().ok()?, rest.parse().ok()?))
 }

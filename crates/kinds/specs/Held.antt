@@ -6,7 +6,8 @@ use Rattle.number.specs.Frac.{Frac, lowest, whole}
 use Rattle.kinds.specs.Fractions.{within, within_lowest, made, frac_of, pair_from, pair_of}
 use Rattle.number.specs.Kind.{Holds}
 use Rattle.number.proofs.Fracs.{frac_same, whole_is}
-use Rattle.number.proofs.Tests.{two_t, join_t, is_true, none_some}
+use Rattle.number.proofs.Tests.{two_t, join_t, is_true}
+use Rattle.std.proofs.lemmas.Option.{none-some}
 
 pub made_some : (a : ℤ) (d : ℕ) (b : Bool) (f : T b → T (lowest a d)) (q : Frac) → T b → q.num ≡ a → q.den ≡ d → made a d b f ≡ Some q
 unfolding made
@@ -18,7 +19,7 @@ unfolding made
 made_from a d true f q e =
     let s : record { num = a; den = d; low = f tt } ≡ q = cc in
     (tt, sym (ap (λ (r : Frac). r.num) s), sym (ap (λ (r : Frac). r.den) s))
-made_from a d false f q e = absurd (none_some q e)
+made_from a d false f q e = absurd (none-some q e)
 
 pub pair_some : (q : Frac) → T (nat_le (unsigned_abs q.num) 2147483647 && nat_le q.den 2147483647) → pair_of q ≡ Some (pair_from q.num q.den)
 unfolding pair_of
@@ -30,7 +31,7 @@ pair_from_code q p e = by (nat_le (unsigned_abs q.num) 2147483647 && nat_le q.de
   where
     by : (b : Bool) → cond b (Some (pair_from q.num q.den)) None ≡ Some p → T b × (pair_from q.num q.den ≡ p)
     by true e = (tt, cc)
-    by false e = absurd (none_some p e)
+    by false e = absurd (none-some p e)
 
 back : (q : Frac) (p : Pair) → pair_of q ≡ Some p → frac_of p ≡ Some q
 unfolding frac_of

@@ -10,7 +10,8 @@ use Rattle.number.specs.Divisors.{gcd_left, gcd_right, gcd_greatest, gcd_pos}
 use Rattle.number.specs.Frac.{Frac, lowest, norm}
 use Rattle.kinds.specs.Fractions.{within, pair_from, pair_of}
 use Rattle.number.specs.Kind.{held}
-use Rattle.number.proofs.Tests.{two_t, leb_yes, leb_no}
+use Rattle.number.proofs.Tests.{two_t}
+use Rattle.std.proofs.lemmas.Bool.{le-leb, lt-leb}
 
 pub gcd_zero : (a : ℕ) → gcd a 0 ≡ a
 unfolding gcd steps
@@ -55,7 +56,7 @@ pub within_yes : (a b : ℤ) (g : ℕ) → pos 1 ≤ℤ b → unsigned_abs b ≤
 unfolding lowest
 within_yes a (negsuc d) g p hb ha e = absurd (omega (arith, ints))
 within_yes a (pos d) g p hb ha e =
-    ap (λ x. nat_eq x 1) e ∙ sym (ap₂ (λ s t. s && (t && (nat_le 1 d && gcd (unsigned_abs a) d == 1))) (leb_yes (unsigned_abs a) 2147483647 ha) (leb_yes d 2147483647 hb) ∙ ap (λ t. t && gcd (unsigned_abs a) d == 1) (leb_yes 1 d (omega (arith, ints))))
+    ap (λ x. nat_eq x 1) e ∙ sym (ap₂ (λ s t. s && (t && (nat_le 1 d && gcd (unsigned_abs a) d == 1))) (le-leb (unsigned_abs a) 2147483647 ha) (le-leb d 2147483647 hb) ∙ ap (λ t. t && gcd (unsigned_abs a) d == 1) (le-leb 1 d (omega (arith, ints))))
 
 -- ---- lowest terms
 norm_num : (z : ℤ) (d : ℕ) → 0 < d → (norm z d).num ≡ int_div z (pos (gcd (unsigned_abs z) d))
@@ -71,14 +72,14 @@ norm_den z (suc d) h = refl
 pub held_yes : (q : Frac) (a : ℤ) (b : ℕ) → q.num ≡ a → q.den ≡ b → unsigned_abs a ≤ 2147483647 → b ≤ 2147483647 → Ok (pair_from a b) ≡ held (pair_of q)
 unfolding pair_of
 held_yes q a b ea eb ha hb =
-    sym (ap₂ (λ x y. held (cond (nat_le (unsigned_abs x) 2147483647 && nat_le y 2147483647) (Some (pair_from x y)) None)) ea eb ∙ ap₂ (λ s t. held (cond (s && t) (Some (pair_from a b)) None)) (leb_yes _ _ ha) (leb_yes _ _ hb))
+    sym (ap₂ (λ x y. held (cond (nat_le (unsigned_abs x) 2147483647 && nat_le y 2147483647) (Some (pair_from x y)) None)) ea eb ∙ ap₂ (λ s t. held (cond (s && t) (Some (pair_from a b)) None)) (le-leb _ _ ha) (le-leb _ _ hb))
 
 pub held_no : (q : Frac) (a : ℤ) (b : ℕ) → q.num ≡ a → q.den ≡ b → (2147483647 < unsigned_abs a) ⊎ (2147483647 < b) → Err NotHeld ≡ held (pair_of q)
 unfolding pair_of
 held_no q a b ea eb (inl h) =
-    sym (ap₂ (λ x y. held (cond (nat_le (unsigned_abs x) 2147483647 && nat_le y 2147483647) (Some (pair_from x y)) None)) ea eb ∙ ap (λ s. held (cond (s && nat_le b 2147483647) (Some (pair_from a b)) None)) (leb_no _ _ h))
+    sym (ap₂ (λ x y. held (cond (nat_le (unsigned_abs x) 2147483647 && nat_le y 2147483647) (Some (pair_from x y)) None)) ea eb ∙ ap (λ s. held (cond (s && nat_le b 2147483647) (Some (pair_from a b)) None)) (lt-leb _ _ h))
 held_no q a b ea eb (inr h) =
-    sym (ap₂ (λ x y. held (cond (nat_le (unsigned_abs x) 2147483647 && nat_le y 2147483647) (Some (pair_from x y)) None)) ea eb ∙ ap (λ t. held (cond (nat_le (unsigned_abs a) 2147483647 && t) (Some (pair_from a b)) None)) (leb_no _ _ h) ∙ ap (λ t. held (cond t (Some (pair_from a b)) None)) (sym (no_and (nat_le (unsigned_abs a) 2147483647))))
+    sym (ap₂ (λ x y. held (cond (nat_le (unsigned_abs x) 2147483647 && nat_le y 2147483647) (Some (pair_from x y)) None)) ea eb ∙ ap (λ t. held (cond (nat_le (unsigned_abs a) 2147483647 && t) (Some (pair_from a b)) None)) (lt-leb _ _ h) ∙ ap (λ t. held (cond t (Some (pair_from a b)) None)) (sym (no_and (nat_le (unsigned_abs a) 2147483647))))
 
 neg_fits : (m n : ℕ) → m ≤ suc n → n < 2 ^ 63 → FitsSigned w64 (neg_ℤ (pos m))
 neg_fits zero n h k = omega (arith, ints)

@@ -6,10 +6,8 @@ ghost use Rattle.number.specs.Kind.{held};
 ghost use Rattle.kinds.specs.Fractions.{within, frac_of, pair_of};
 ghost use Rattle.kinds.specs.Held.{fractions_held};
 
+use super::within_limit;
 use number::{Fault, Kind, Pair};
-
-// No term is beyond it.
-const LIMIT: i64 = 2147483647;
 
 // Every fraction that a kind may hold.
 pub struct Fractions;
@@ -38,10 +36,10 @@ fn common(a: u64, b: u64) -> u64
 fn valid(p: Pair) -> bool
     ensures { result ≡ within p.a p.b }
 {
-    if p.b < 1 || p.b > LIMIT || p.a < -LIMIT || p.a > LIMIT {
-        return false;
-    }
-    common(p.a.unsigned_abs(), p.b.unsigned_abs()) == 1
+    p.b >= 1
+        && within_limit(p.a)
+        && within_limit(p.b)
+        && common(p.a.unsigned_abs(), p.b.unsigned_abs()) == 1
 }
 
 // The lowest terms of n / d, if neither is beyond the limit.
@@ -52,10 +50,11 @@ fn reduce(n: i64, d: i64) -> Result<Pair, Fault>
     let g = common(n.unsigned_abs(), d.unsigned_abs()) as i64;
     let a = n / g;
     let b = d / g;
-    if a < -LIMIT || a > LIMIT || b > LIMIT {
-        return Err(Fault::NotHeld);
+    if within_limit(a) && within_limit(b) {
+        Ok(Pair { a, b })
+    } else {
+        Err(Fault::NotHeld)
     }
-    Ok(Pair { a, b })
 }
 
 impl Kind for Fractions {

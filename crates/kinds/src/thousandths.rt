@@ -5,10 +5,8 @@ ghost use Rattle.kinds.specs.Thousandths.{counts, thousand_of, counted, count_of
 ghost use Rattle.kinds.specs.Counting.{thousandths_held};
 
 use super::fractions::Fractions;
+use super::within_limit;
 use number::{Fault, Kind, Pair};
-
-// No count is beyond it.
-const LIMIT: i64 = 2147483647;
 
 // Counts of thousandths.
 pub struct Thousandths;
@@ -17,10 +15,7 @@ pub struct Thousandths;
 fn valid(p: Pair) -> bool
     ensures { result ≡ counts p.a p.b }
 {
-    if p.b != 1 || p.a < -LIMIT || p.a > LIMIT {
-        return false;
-    }
-    true
+    p.b == 1 && within_limit(p.a)
 }
 
 // The thousandths of a / b.
@@ -33,10 +28,11 @@ fn count(a: i64, b: i64) -> Result<Pair, Fault>
         return Err(Fault::NotHeld);
     }
     let c = a * (1000 / d) as i64;
-    if c < -LIMIT || c > LIMIT {
-        return Err(Fault::NotHeld);
+    if within_limit(c) {
+        Ok(Pair { a: c, b: 1 })
+    } else {
+        Err(Fault::NotHeld)
     }
-    Ok(Pair { a: c, b: 1 })
 }
 
 impl Kind for Thousandths {

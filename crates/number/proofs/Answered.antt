@@ -1,6 +1,7 @@
 -- What the answers of a kind say of fractions.
 use Rattle.std.proofs.Common.{◌≡◌, ℕ, Bool, true, false, cond, ◌&&◌, leb, Some, None, Ok, Err, Option, Result, sym, refl, ap, ◌∙◌, ap₂, arith}
 use Rattle.number.specs.declared.Pair.{Pair}
+use Rattle.number.specs.declared.Quantity.{Quantity}
 use Rattle.number.specs.declared.Fault.{Fault}
 use Rattle.number.specs.declared.Fault.TheVariants.{NotHeld}
 use Rattle.number.specs.Frac.{Frac, add, scale, horner}
@@ -38,8 +39,8 @@ module _ (means : Pair → Option Frac) (code : Frac → Option Pair) (laws : Ho
       stepped_means d0 r1 p _ _ n 1 e0 (stepped_means d1 r2 r1 _ _ n 2 e1 (stepped_means d2 r3 r2 _ _ n 3 e2 (stepped_means d3 d4 r3 _ _ n 4 e3 e4 s3) s2) s1) s0
 
 module _ (means : Pair → Option Frac) (code : Frac → Option Pair) where
-  pub worked_is : (d0 d1 d2 d3 d4 r3 r2 r1 : Pair) (n : ℕ) → Ok r3 ≡ stepped means code d3 d4 n 4 → Ok r2 ≡ stepped means code d2 r3 n 3 → Ok r1 ≡ stepped means code d1 r2 n 2 → stepped means code d0 r1 n 1 ≡ worked means code d0 d1 d2 d3 d4 n
-  worked_is d0 d1 d2 d3 d4 r3 r2 r1 n s3 s2 s1 =
-      ap (λ z. then z (λ t1. stepped means code d0 t1 n 1)) s1
-      ∙ ap (λ z. then z (λ t2. then (stepped means code d1 t2 n 2) (λ t1. stepped means code d0 t1 n 1))) s2
-      ∙ ap (λ z. then z (λ t3. then (stepped means code d2 t3 n 3) (λ t2. then (stepped means code d1 t2 n 2) (λ t1. stepped means code d0 t1 n 1)))) s3
+  pub worked_is : (q : Quantity) (r3 r2 r1 : Pair) (n : ℕ) → Ok r3 ≡ stepped means code q.d3 q.d4 n 4 → Ok r2 ≡ stepped means code q.d2 r3 n 3 → Ok r1 ≡ stepped means code q.d1 r2 n 2 → stepped means code q.d0 r1 n 1 ≡ worked means code q n
+  worked_is q r3 r2 r1 n s3 s2 s1 =
+      ap (λ z. then z (λ t1. stepped means code q.d0 t1 n 1)) s1
+      ∙ ap (λ z. then z (λ t2. then (stepped means code q.d1 t2 n 2) (λ t1. stepped means code q.d0 t1 n 1))) s2
+      ∙ ap (λ z. then z (λ t3. then (stepped means code q.d2 t3 n 3) (λ t2. then (stepped means code q.d1 t2 n 2) (λ t1. stepped means code q.d0 t1 n 1)))) s3

@@ -12,7 +12,8 @@ use Rattle.number.specs.Kind.{Holds, held, taken, of_one, of_two, exact2, divide
 use Rattle.number.proofs.Fracs.{as_norm, as_self, as_add, as_mul, den_pos}
 use Rattle.number.proofs.Ints.{neg_out, neg_right, abs_of_neg}
 use Rattle.number.proofs.Products.{abs_product, long_fits}
-use Rattle.number.proofs.Tests.{leb_yes, leb_no, le_z_yes}
+use Rattle.number.proofs.Tests.{le_z_yes}
+use Rattle.std.proofs.lemmas.Bool.{le-leb, lt-leb}
 
 -- to the bits of an i64 and back
 abbrev pub b64 : ℤ → ℤ
@@ -257,13 +258,13 @@ module _ (means : Pair → Option Frac) (code : Frac → Option Pair) where
 
     -- n or k is out of range
     pub scaled_no : (2147483647 < n) ⊎ ((k < 1) ⊎ (4 < k)) → Err NotHeld ≡ scaled means code p n k
-    scaled_no (inl h) = refused (leb n 2147483647) (leb 1 k) (leb k 4) (means p) (inl (leb_no n 2147483647 h))
-    scaled_no (inr (inl h)) = refused (leb n 2147483647) (leb 1 k) (leb k 4) (means p) (inr (inl (leb_no 1 k h)))
-    scaled_no (inr (inr h)) = refused (leb n 2147483647) (leb 1 k) (leb k 4) (means p) (inr (inr (leb_no k 4 h)))
+    scaled_no (inl h) = refused (leb n 2147483647) (leb 1 k) (leb k 4) (means p) (inl (lt-leb n 2147483647 h))
+    scaled_no (inr (inl h)) = refused (leb n 2147483647) (leb 1 k) (leb k 4) (means p) (inr (inl (lt-leb 1 k h)))
+    scaled_no (inr (inr h)) = refused (leb n 2147483647) (leb 1 k) (leb k 4) (means p) (inr (inr (lt-leb k 4 h)))
 
     pub returns_scale : (a b r t : ℤ) (z : Result Pair Fault) → Read means p a b → n ≤ 2147483647 → 1 ≤ k → k ≤ 4 → nat_abs r ≤ 4611686014132420609 → nat_abs t ≤ 4611686014132420609 → r ≡ b64 a *ℤ to_z w64 n → t ≡ b64 b *ℤ to_z w64 k → z ≡ taken means code (b64 r) (b64 t) → z ≡ scaled means code p n k
     returns_scale a b r t z P hn hk hl hr ht er et e =
         let br : b64 r ≡ a *ℤ pos n = to_z-of_z w64 r (long_fits r hr) ∙ er ∙ ap₂ ◌*ℤ◌ (to_z-of_z w64 a P.fit_a) (to_z_pos w64 n (omega arith)) in
         let bt : b64 t ≡ b *ℤ pos k = to_z-of_z w64 t (long_fits t ht) ∙ et ∙ ap₂ ◌*ℤ◌ (to_z-of_z w64 b P.fit_b) (to_z_pos w64 k (omega arith)) in
         let up : pos 1 ≤ℤ b64 t = subst (λ s. pos 1 ≤ℤ s) (sym bt) (prod_pos b (pos k) P.low (omega (arith, ints))) in
-        e ∙ taken_is _ _ up ∙ ap₂ outcome br bt ∙ ap (λ x. held (code x)) (sym (scale_is P.frac a b n k P.num_is P.den_is hk)) ∙ sym (λ i. asked (leb_yes n 2147483647 hn i) (leb_yes 1 k hk i) (leb_yes k 4 hl i) (P.is i))
+        e ∙ taken_is _ _ up ∙ ap₂ outcome br bt ∙ ap (λ x. held (code x)) (sym (scale_is P.frac a b n k P.num_is P.den_is hk)) ∙ sym (λ i. asked (le-leb n 2147483647 hn i) (le-leb 1 k hk i) (le-leb k 4 hl i) (P.is i))

@@ -1,14 +1,7 @@
 -- Tests that are known to hold, or not to.
-use Rattle.std.proofs.Common.{◌≡◌, ℕ, ◌<◌, ◌≤◌, Bool, true, false, cond, ◌&&◌, T, leb, ℤ, ◌≤ℤ◌, Some, None, Option, sym, refl, subst, arith, le→leb, leb→le}
+use Rattle.std.proofs.Common.{◌≡◌, ℕ, ◌≤◌, Bool, true, false, cond, ◌&&◌, T, leb, ℤ, ◌≤ℤ◌, Some, None, Option, sym, refl, arith, le→leb}
 use lib.Signed.{le_z}
 use Rattle.std.proofs.lemmas.Int.{ints}
-
-pub leb_no : (m n : ℕ) → n < m → leb m n ≡ false
-leb_no m n h = by (leb m n) refl
-  where
-    by : (b : Bool) → leb m n ≡ b → leb m n ≡ false
-    by true e = absurd (omega (arith, leb→le m n (subst T (sym e) tt)))
-    by false e = e
 
 pub is_true : (b : Bool) → T b → b ≡ true
 is_true true t = refl

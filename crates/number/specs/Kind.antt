@@ -2,9 +2,14 @@
 -- `means`, the fraction that a pair means if it is a number of the kind, and `code`, the pair of a fraction if it is held.
 use Rattle.std.specs.Prelude.{◌≡◌, ℕ, ◌≤◌, Bool, cond, ◌&&◌, ℤ, pos, Some, None, Ok, Err, Option, Result, ◌==◌, int_le, nat_le, unsigned_abs}
 use Rattle.number.specs.declared.Pair.{Pair}
+use Rattle.number.specs.declared.Quantity.{Quantity}
 use Rattle.number.specs.declared.Fault.{Fault}
 use Rattle.number.specs.declared.Fault.TheVariants.{NotHeld, ZeroDivisor}
-use Rattle.number.specs.Frac.{Frac, norm, whole, add, div, scale, horner}
+use Rattle.number.specs.declared.Operation.{Operation}
+use Rattle.number.specs.declared.Operation.TheVariants.{Add, Sub, Mul, Div, Lt, Le}
+use Rattle.number.specs.declared.Answer.{Answer}
+use Rattle.number.specs.declared.Answer.TheVariants.{Number, Truth}
+use Rattle.number.specs.Frac.{Frac, norm, whole, add, sub, mul, div, scale, less, at_most, horner}
 
 -- what makes two such functions a kind
 pub record Holds (means : Pair → Option Frac) (code : Frac → Option Pair) : Type 0 where
@@ -67,15 +72,24 @@ then (Ok a) f = f a
 then (Err e) f = Err e
 
 module _ (means : Pair → Option Frac) (code : Frac → Option Pair) where
+  -- what an operation on two numbers comes to
+  abbrev pub applied : Operation → Pair → Pair → Result Answer Fault
+  applied Add p q = then (exact2 means code add p q) (λ s. Ok (Number s))
+  applied Sub p q = then (exact2 means code sub p q) (λ s. Ok (Number s))
+  applied Mul p q = then (exact2 means code mul p q) (λ s. Ok (Number s))
+  applied Div p q = then (divided means code p q) (λ s. Ok (Number s))
+  applied Lt p q = then (asked2 means less p q) (λ t. Ok (Truth t))
+  applied Le p q = then (asked2 means at_most p q) (λ t. Ok (Truth t))
+
   -- d + r n / k
   abbrev pub stepped : Pair → Pair → ℕ → ℕ → Result Pair Fault
   stepped d r n k = then (scaled means code r n k) (λ s. exact2 means code add d s)
 
   -- the value n ticks on by the Horner form, each number on the way held
-  abbrev pub worked : Pair → Pair → Pair → Pair → Pair → ℕ → Result Pair Fault
-  worked d0 d1 d2 d3 d4 n =
-      then (stepped d3 d4 n 4) (λ r3. then (stepped d2 r3 n 3) (λ r2. then (stepped d1 r2 n 2) (λ r1. stepped d0 r1 n 1)))
+  abbrev pub worked : Quantity → ℕ → Result Pair Fault
+  worked q n =
+      then (stepped q.d3 q.d4 n 4) (λ r3. then (stepped q.d2 r3 n 3) (λ r2. then (stepped q.d1 r2 n 2) (λ r1. stepped q.d0 r1 n 1)))
 
 -- an answer is the pair of exactly the value n ticks on
-abbrev pub Exactly : (Pair → Option Frac) → Pair → Pair → Pair → Pair → Pair → ℕ → Result Pair Fault → Type 0
-Exactly means d0 d1 d2 d3 d4 n r = (x0 x1 x2 x3 x4 : Frac) (p : Pair) → means d0 ≡ Some x0 → means d1 ≡ Some x1 → means d2 ≡ Some x2 → means d3 ≡ Some x3 → means d4 ≡ Some x4 → r ≡ Ok p → means p ≡ Some (horner x0 x1 x2 x3 x4 n)
+abbrev pub Exactly : (Pair → Option Frac) → Quantity → ℕ → Result Pair Fault → Type 0
+Exactly means q n r = (x0 x1 x2 x3 x4 : Frac) (p : Pair) → means q.d0 ≡ Some x0 → means q.d1 ≡ Some x1 → means q.d2 ≡ Some x2 → means q.d3 ≡ Some x3 → means q.d4 ≡ Some x4 → r ≡ Ok p → means p ≡ Some (horner x0 x1 x2 x3 x4 n)

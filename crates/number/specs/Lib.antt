@@ -5,4 +5,5 @@ pub mod Lowest
 pub mod Frac
 pub mod Ring
 pub mod Kind
+pub mod Fault
 pub mod Theorems

@@ -62,7 +62,7 @@ mod tests {
     use kinds::fractions::Fractions;
     use kinds::small::SmallWholes;
     use kinds::thousandths::Thousandths;
-    use number::{Kind, Pair};
+    use number::{Kind, Pair, Quantity};
     use std::process::Abort;
 
     fn pair(p: (i64, i64)) -> Pair {
@@ -74,19 +74,15 @@ mod tests {
         Ok((p.a, p.b))
     }
 
-    fn arithmetic<K: Kind>(rt: &impl Abort, cases: &[Case]) {
+    fn operations<K: Kind>(rt: &impl Abort, cases: &[Case]) {
         for c in cases {
-            assert_eq!(rt; parts(K::add(pair(c.p), pair(c.q))), c.add);
-            assert_eq!(rt; parts(K::sub(pair(c.p), pair(c.q))), c.sub);
-            assert_eq!(rt; parts(K::mul(pair(c.p), pair(c.q))), c.mul);
-            assert_eq!(rt; parts(K::div(pair(c.p), pair(c.q))), c.div);
-        }
-    }
-
-    fn order<K: Kind>(rt: &impl Abort, cases: &[Case]) {
-        for c in cases {
-            assert_eq!(rt; K::lt(pair(c.p), pair(c.q)), c.lt);
-            assert_eq!(rt; K::le(pair(c.p), pair(c.q)), c.le);
+            let (p, q) = (pair(c.p), pair(c.q));
+            assert_eq!(rt; parts(K::add(p, q)), c.add);
+            assert_eq!(rt; parts(K::sub(p, q)), c.sub);
+            assert_eq!(rt; parts(K::mul(p, q)), c.mul);
+            assert_eq!(rt; parts(K::div(p, q)), c.div);
+            assert_eq!(rt; K::lt(p, q), c.lt);
+            assert_eq!(rt; K::le(p, q), c.le);
         }
     }
 
@@ -108,30 +104,49 @@ mod tests {
         }
     }
 
+    // The table of a kind.
+    fn table<K: Kind>(
+        rt: &impl Abort,
+        cases: &[Case],
+        taken: &[Taken],
+        told: &[Told],
+        scaled: &[Scaled],
+    ) {
+        operations::<K>(rt, cases);
+        taking::<K>(rt, taken);
+        telling::<K>(rt, told);
+        scaling::<K>(rt, scaled);
+    }
+
     #[test]
     fn fractions(rt: HostRuntime) {
-        arithmetic::<Fractions>(&rt, &fractions_table::CASES);
-        order::<Fractions>(&rt, &fractions_table::CASES);
-        taking::<Fractions>(&rt, &fractions_table::TAKEN);
-        telling::<Fractions>(&rt, &fractions_table::TOLD);
-        scaling::<Fractions>(&rt, &fractions_table::SCALED);
+        use fractions_table::{CASES, SCALED, TAKEN, TOLD};
+        table::<Fractions>(&rt, &CASES, &TAKEN, &TOLD, &SCALED);
     }
 
     #[test]
     fn thousandths(rt: HostRuntime) {
-        arithmetic::<Thousandths>(&rt, &thousandths_table::CASES);
-        order::<Thousandths>(&rt, &thousandths_table::CASES);
-        taking::<Thousandths>(&rt, &thousandths_table::TAKEN);
-        telling::<Thousandths>(&rt, &thousandths_table::TOLD);
-        scaling::<Thousandths>(&rt, &thousandths_table::SCALED);
+        use thousandths_table::{CASES, SCALED, TAKEN, TOLD};
+        table::<Thousandths>(&rt, &CASES, &TAKEN, &TOLD, &SCALED);
     }
 
     #[test]
     fn small_wholes(rt: HostRuntime) {
-        arithmetic::<SmallWholes>(&rt, &small_table::CASES);
-        order::<SmallWholes>(&rt, &small_table::CASES);
-        taking::<SmallWholes>(&rt, &small_table::TAKEN);
-        telling::<SmallWholes>(&rt, &small_table::TOLD);
-        scaling::<SmallWholes>(&rt, &small_table::SCALED);
+        use small_table::{CASES, SCALED, TAKEN, TOLD};
+        table::<SmallWholes>(&rt, &CASES, &TAKEN, &TOLD, &SCALED);
+    }
+
+    // A start of 1 and derivatives of 1, two ticks on.
+    #[test]
+    fn two_ticks(rt: HostRuntime) {
+        let one = Pair { a: 1, b: 1 };
+        let quantity = Quantity {
+            d0: one,
+            d1: one,
+            d2: one,
+            d3: one,
+            d4: one,
+        };
+        assert_eq!(rt; quantity.value_at::<Fractions>(2), Ok(Pair { a: 7, b: 1 }));
     }
 }

@@ -9,7 +9,7 @@ fn main(rt: HostRuntime) -> io::Result<()> {
     let heap = rt.alloc();
     for line in BufReader::new(heap, rt.stdin())?.lines(heap) {
         let line = line?;
-        rt.println(answer(heap, line.as_str())?)?;
+        println!(rt; "{}", answer(heap, line.as_str())?)?;
     }
     Ok(())
 }

@@ -1,25 +1,32 @@
 -- Which pairs are lowest terms within the limit.
-use Rattle.std.proofs.Common.{nat_abs, sym, ap, ◌∙◌, ap₂, arith, w64, SFits, rules}
+use Rattle.std.proofs.Common.{◌≡◌, ◌≤◌, pos, true, ◌≤ℤ◌, nat_abs, sym, ap, ◌∙◌, ap₂, arith, w64, SFits, rules}
 use Rattle.std.proofs.lemmas.Int.{ints, to_z-of_z}
 use Rattle.number.specs.Gcd.{gcd}
-use Rattle.kinds.specs.Reduced.{within_facts, within_yes}
 use Rattle.number.proofs.Tests.{is_false}
+use Rattle.kinds.specs.Reduced.{within_facts, within_yes}
+use Rattle.std.proofs.lemmas.Bool.{both_ways, leb-true, leb-false}
 use Rattle.kinds.proofs.fractions.valid.Goals as goal
-use Rattle.kinds.proofs.fractions.valid.Goals.{then-p-lt1-via-then-p-lt1, then-p-lt1-via-else-p-lt1+then-p-gt-LIMIT, then-p-lt1-via-else-p-lt1+else-p-gt-LIMIT+then-p, then-p-lt1-via-else-p-lt1+else-p-gt-LIMIT+else-p+then-p-gt-LIMIT-2}
+use Rattle.kinds.proofs.fractions.valid.Goals.{then-p-ge1, else-p-ge1, then-within_limit, else-within_limit}
 
-pub returns-then-p-lt1 : goal.returns-then-p-lt1
-returns-then-p-lt1 c =
-    sym (is_false _ (λ t.
-    let fa : SFits w64 c.args.p.a = search rules in
-    let fb : SFits w64 c.args.p.b = search rules in
-    let f = within_facts c.args.p.a c.args.p.b t in
-    elim c.then-p-lt1.branch [ then-p-lt1-via-then-p-lt1 w ↦ omega (arith, ints) | then-p-lt1-via-else-p-lt1+then-p-gt-LIMIT w ↦ omega (arith, ints) | then-p-lt1-via-else-p-lt1+else-p-gt-LIMIT+then-p w ↦ omega (arith, ints) | then-p-lt1-via-else-p-lt1+else-p-gt-LIMIT+else-p+then-p-gt-LIMIT-2 w ↦ omega (arith, ints) ]))
-
-pub returns : goal.returns
-returns c =
+pub returns-then-within_limit-2 : goal.returns-then-within_limit-2
+returns-then-within_limit-2 c =
     let a = c.args.p.a in
     let b = c.args.p.b in
-    let fa : SFits w64 c.args.p.a = search rules in
-    let fb : SFits w64 c.args.p.b = search rules in
-    within_yes a b c.common.result (omega (arith, ints)) (omega (arith, ints)) (omega (arith, ints))
-    (c.common.ensures ∙ ap₂ gcd (c.unsigned_abs.ensures.value ∙ ap nat_abs (to_z-of_z w64 a fa)) (c.unsigned_abs-2.ensures.value ∙ ap nat_abs (to_z-of_z w64 b fb)))
+    let fa : SFits w64 a = search rules in
+    let fb : SFits w64 b = search rules in
+    let t = c.if-within_limit-2.true in
+    let second : (c.if-p-ge1.value ≡ true) × (nat_abs b ≤ 2147483647) = elim c.if-within_limit.branch [ then-within_limit w ↦ let s = leb-true _ _ (sym w.within_limit-then-within_limit.ensures ∙ sym w.value-is ∙ t) in (w.if-within_limit.true, omega (arith, ints)) | else-within_limit w ↦ absurd (both_ways _ (w.value-is ∙ w.if-within_limit.false) t) ] in
+    let first : (pos 1 ≤ℤ b) × (nat_abs a ≤ 2147483647) = elim c.if-p-ge1.branch [ then-p-ge1 w ↦ let s = leb-true _ _ (sym w.within_limit.ensures ∙ sym w.value-is ∙ second.0) in (omega (arith, ints), omega (arith, ints)) | else-p-ge1 w ↦ absurd (both_ways _ (w.value-is ∙ w.if-p-ge1.false) second.0) ] in
+    within_yes a b c.common.result first.0 second.1 first.1
+    (c.common.ensures ∙ ap₂ gcd (c.unsigned_abs.ensures.value ∙ ap nat_abs (to_z-of_z w64 a fa)) (c.unsigned_abs-then-within_limit-2.ensures.value ∙ ap nat_abs (to_z-of_z w64 b fb)))
+
+pub returns-else-within_limit-2 : goal.returns-else-within_limit-2
+returns-else-within_limit-2 c =
+    let a = c.args.p.a in
+    let b = c.args.p.b in
+    let fa : SFits w64 a = search rules in
+    let fb : SFits w64 b = search rules in
+    let n = c.if-within_limit-2.false in
+    n ∙ sym (is_false _ (λ t.
+    let f = within_facts a b t in
+    elim c.if-within_limit.branch [ then-within_limit w ↦ let s = leb-false _ _ (sym w.within_limit-then-within_limit.ensures ∙ sym w.value-is ∙ n) in omega (arith, ints) | else-within_limit w ↦ (elim c.if-p-ge1.branch [ then-p-ge1 u ↦ let s = leb-false _ _ (sym u.within_limit.ensures ∙ sym u.value-is ∙ w.if-within_limit.false) in omega (arith, ints) | else-p-ge1 u ↦ let s = u.if-p-ge1.false in omega (arith, ints) ]) ]))

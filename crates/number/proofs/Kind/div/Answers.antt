@@ -6,26 +6,26 @@ use Rattle.number.proofs.Kind.div.Goals as goal
 
 pub product-requires : goal.product-requires
 product-requires g c =
-    let p = sizes g.Self.Kind.means g.Self.Kind.code g.met.Self.Kind.sound c.args.p c.in_ok-a.a c.in_ok-a.b c.in_ok-a.ensures in
-    let q = sizes g.Self.Kind.means g.Self.Kind.code g.met.Self.Kind.sound c.args.q c.in_ok-c.c c.in_ok-c.d c.in_ok-c.ensures in
+    let p = sizes _ _ g.met.Self.Kind.sound _ _ _ c.in_ok-a.ensures in
+    let q = sizes _ _ g.met.Self.Kind.sound _ _ _ c.in_ok-c.ensures in
     (omega arith, omega arith)
 
 pub product-requires-then-c-gt0 : goal.product-requires-then-c-gt0
 product-requires-then-c-gt0 g c =
-    let p = sizes g.Self.Kind.means g.Self.Kind.code g.met.Self.Kind.sound c.args.p c.in_ok-a.a c.in_ok-a.b c.in_ok-a.ensures in
-    let q = sizes g.Self.Kind.means g.Self.Kind.code g.met.Self.Kind.sound c.args.q c.in_ok-c.c c.in_ok-c.d c.in_ok-c.ensures in
+    let p = sizes _ _ g.met.Self.Kind.sound _ _ _ c.in_ok-a.ensures in
+    let q = sizes _ _ g.met.Self.Kind.sound _ _ _ c.in_ok-c.ensures in
     (omega arith, omega arith)
 
 pub product-requires-else-c-gt0 : goal.product-requires-else-c-gt0
 product-requires-else-c-gt0 g c =
-    let p = sizes g.Self.Kind.means g.Self.Kind.code g.met.Self.Kind.sound c.args.p c.in_ok-a.a c.in_ok-a.b c.in_ok-a.ensures in
-    let q = sizes g.Self.Kind.means g.Self.Kind.code g.met.Self.Kind.sound c.args.q c.in_ok-c.c c.in_ok-c.d c.in_ok-c.ensures in
+    let p = sizes _ _ g.met.Self.Kind.sound _ _ _ c.in_ok-a.ensures in
+    let q = sizes _ _ g.met.Self.Kind.sound _ _ _ c.in_ok-c.ensures in
     (omega arith, omega arith)
 
 pub product-requires-else-c-gt0-2 : goal.product-requires-else-c-gt0-2
 product-requires-else-c-gt0-2 g c =
-    let p = sizes g.Self.Kind.means g.Self.Kind.code g.met.Self.Kind.sound c.args.p c.in_ok-a.a c.in_ok-a.b c.in_ok-a.ensures in
-    let q = sizes g.Self.Kind.means g.Self.Kind.code g.met.Self.Kind.sound c.args.q c.in_ok-c.c c.in_ok-c.d c.in_ok-c.ensures in
+    let p = sizes _ _ g.met.Self.Kind.sound _ _ _ c.in_ok-a.ensures in
+    let q = sizes _ _ g.met.Self.Kind.sound _ _ _ c.in_ok-c.ensures in
     (omega arith, omega arith)
 
 pub overflow_sub-product-else-c-gt0 : goal.overflow_sub-product-else-c-gt0
@@ -33,21 +33,20 @@ overflow_sub-product-else-c-gt0 g c = zero_less_fits c.product-else-c-gt0-2.resu
 
 pub returns-then-c-eq0 : goal.returns-then-c-eq0
 returns-then-c-eq0 g c =
-    let P = read g.Self.Kind.means g.Self.Kind.code g.met.Self.Kind.sound c.args.p c.in_ok-a.a c.in_ok-a.b c.in_ok-a.ensures in
-    let Q = read g.Self.Kind.means g.Self.Kind.code g.met.Self.Kind.sound c.args.q c.in_ok-c.c c.in_ok-c.d c.in_ok-c.ensures in
+    let Q = read _ _ g.met.Self.Kind.sound _ _ _ c.in_ok-c.ensures in
     let e : c.in_ok-c.c ≡ pos 0 = let f = Q.fit_a in omega (arith, ints) in
-    divides_no g.Self.Kind.means g.Self.Kind.code c.args.p c.args.q c.in_ok-a.a c.in_ok-a.b c.in_ok-c.c c.in_ok-c.d P Q e
+    divides_no _ g.Self.Kind.code _ _ _ _ _ _ (read _ _ g.met.Self.Kind.sound _ _ _ c.in_ok-a.ensures) Q e
 
 pub returns-then-c-gt0 : goal.returns-then-c-gt0
 returns-then-c-gt0 g c =
-    let P = read g.Self.Kind.means g.Self.Kind.code g.met.Self.Kind.sound c.args.p c.in_ok-a.a c.in_ok-a.b c.in_ok-a.ensures in
-    let Q = read g.Self.Kind.means g.Self.Kind.code g.met.Self.Kind.sound c.args.q c.in_ok-c.c c.in_ok-c.d c.in_ok-c.ensures in
+    let Q = read _ _ g.met.Self.Kind.sound _ _ _ c.in_ok-c.ensures in
     let sign : pos 1 ≤ℤ c.in_ok-c.c = let f = Q.fit_a in omega (arith, ints) in
-    returns_div_pos g.Self.Kind.means g.Self.Kind.code c.args.p c.args.q c.in_ok-a.a c.in_ok-a.b c.in_ok-c.c c.in_ok-c.d P Q c.product.result c.product-then-c-gt0.result c.take.result sign c.product.ensures.bound c.product-then-c-gt0.ensures.bound c.product.ensures.value c.product-then-c-gt0.ensures.value c.take.ensures
+    returns_div_pos _ g.Self.Kind.code _ _ _ _ _ _ (read _ _ g.met.Self.Kind.sound _ _ _ c.in_ok-a.ensures) Q _ _ _ sign
+    c.product.ensures.bound c.product-then-c-gt0.ensures.bound c.product.ensures.value c.product-then-c-gt0.ensures.value c.take.ensures
 
 pub returns-else-c-gt0 : goal.returns-else-c-gt0
 returns-else-c-gt0 g c =
-    let P = read g.Self.Kind.means g.Self.Kind.code g.met.Self.Kind.sound c.args.p c.in_ok-a.a c.in_ok-a.b c.in_ok-a.ensures in
-    let Q = read g.Self.Kind.means g.Self.Kind.code g.met.Self.Kind.sound c.args.q c.in_ok-c.c c.in_ok-c.d c.in_ok-c.ensures in
+    let Q = read _ _ g.met.Self.Kind.sound _ _ _ c.in_ok-c.ensures in
     let sign : c.in_ok-c.c <ℤ pos 0 = let f = Q.fit_a in omega (arith, ints) in
-    returns_div_neg g.Self.Kind.means g.Self.Kind.code c.args.p c.args.q c.in_ok-a.a c.in_ok-a.b c.in_ok-c.c c.in_ok-c.d P Q c.product-else-c-gt0.result c.product-else-c-gt0-2.result c.take-else-c-gt0.result sign c.product-else-c-gt0.ensures.bound c.product-else-c-gt0-2.ensures.bound c.product-else-c-gt0.ensures.value c.product-else-c-gt0-2.ensures.value c.take-else-c-gt0.ensures
+    returns_div_neg _ g.Self.Kind.code _ _ _ _ _ _ (read _ _ g.met.Self.Kind.sound _ _ _ c.in_ok-a.ensures) Q _ _ _ sign
+    c.product-else-c-gt0.ensures.bound c.product-else-c-gt0-2.ensures.bound c.product-else-c-gt0.ensures.value c.product-else-c-gt0-2.ensures.value c.take-else-c-gt0.ensures

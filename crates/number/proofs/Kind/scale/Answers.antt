@@ -6,14 +6,14 @@ use Rattle.number.proofs.Kind.scale.Goals as goal
 
 pub product-requires : goal.product-requires
 product-requires g c =
-    let p = sizes g.Self.Kind.means g.Self.Kind.code g.met.Self.Kind.sound c.args.p c.in_ok-a.a c.in_ok-a.b c.in_ok-a.ensures in
+    let p = sizes _ _ g.met.Self.Kind.sound _ _ _ c.in_ok-a.ensures in
     let n = to_z_pos w64 c.args.n (omega arith) in
     let k = to_z_pos w64 c.args.k (omega arith) in
     (omega (arith, ints), omega (arith, ints))
 
 pub product-requires-2 : goal.product-requires-2
 product-requires-2 g c =
-    let p = sizes g.Self.Kind.means g.Self.Kind.code g.met.Self.Kind.sound c.args.p c.in_ok-a.a c.in_ok-a.b c.in_ok-a.ensures in
+    let p = sizes _ _ g.met.Self.Kind.sound _ _ _ c.in_ok-a.ensures in
     let n = to_z_pos w64 c.args.n (omega arith) in
     let k = to_z_pos w64 c.args.k (omega arith) in
     (omega (arith, ints), omega (arith, ints))

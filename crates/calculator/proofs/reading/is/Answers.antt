@@ -1,7 +1,0 @@
--- Comparing a word.
-use Rattle.std.proofs.Common.{rules}
-use Rattle.std.proofs.lemmas.Slice.Eq.{bytes_eq-Decides}
-use Rattle.calculator.proofs.reading.is.Goals as goal
-
-pub returns : goal.returns
-returns c = search (rules, bytes_eq-Decides)

@@ -1,0 +1,7 @@
+-- Reading a whole number without sign.
+use Rattle.std.proofs.Common.{◌∙◌}
+use Rattle.calculator.proofs.Texts.{mapped_ok, natural_is}
+use Rattle.calculator.proofs.reading.natural.Goals as goal
+
+pub returns : goal.returns
+returns c = mapped_ok c.parse.result c.map_err.result _ c.map_err.ensures.cases ∙ natural_is c.args.text.now c.parse.result c.parse.ensures.value.0
