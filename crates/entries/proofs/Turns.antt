@@ -1,14 +1,9 @@
 -- One turn of each loop over entries or places. Assumes nothing.
-use Rattle.std.proofs.Common.{◌≡◌, ℕ, ◌+◌, ◌<◌, ◌≤◌, Bool, true, false, cond, ◌||◌, eqb, List, length, get_or, drop, Some, None, Option, sym, ap, ◌∙◌, arith}
+use Rattle.std.proofs.Common.{◌≡◌, ℕ, ◌+◌, ◌<◌, ◌≤◌, Bool, true, false, cond, ◌||◌, eqb, List, [], ◌∷◌, length, get_or, drop, find, Some, option_map, refl, arith}
 use Rattle.std.proofs.lemmas.List.{at_drop_more, at_drop_all}
 use Rattle.std.proofs.lemmas.Bool.Decides.{nat_tests}
-use Rattle.std.specs.Str.{bytes_eq}
-use Rattle.script.specs.declared.places.Place.{Place}
 use Rattle.script.specs.declared.reading.Entry.{Entry}
-use Rattle.script.specs.Places.{bytes_at}
-use Rattle.number.specs.declared.Pair.{Pair}
-use Rattle.number.specs.Frac.{Frac}
-use Rattle.entries.specs.Fields.{rest_of_line, find, unknown, undeclared, not_held, unheld}
+use Rattle.entries.specs.Fields.{rest_of_line, first_field}
 
 -- a test decides between two
 pub on_true : {A : Type 0} (x y : A) (b : Bool) → b ≡ true → cond b x y ≡ x
@@ -32,23 +27,14 @@ module _ (es : List Entry) (i : ℕ) (d : Entry) where
 pub line_none : (es : List Entry) (i : ℕ) → length es ≤ i → i + rest_of_line (drop i es) ≡ i
 line_none es i h = let p : rest_of_line (drop i es) ≡ 0 = at_drop_all rest_of_line es i h in omega arith
 
--- a name
-pub find_turn : (text : List ℕ) (names : List Place) (i : ℕ) (d : Place) (name : List ℕ) (b : Bool) → i < length names → b ≡ bytes_eq (bytes_at text (get_or names i d)) name → find text (drop i names) i name ≡ cond b (Some i) (find text (drop (i + 1) names) (i + 1) name)
-find_turn text names i d name b h p =
-    at_drop_more (λ (ps : List Place). find text ps i name) names i d h ∙ ap (λ v. cond v (Some i) (find text (drop (i + 1) names) (i + 1) name)) (sym p)
-
-pub find_none : (text : List ℕ) (names : List Place) (i : ℕ) (name : List ℕ) → length names ≤ i → find text (drop i names) i name ≡ None
-find_none text names i name h = at_drop_all (λ (ps : List Place). find text ps i name) names i h
-
--- a name that is not declared
-pub undeclared_turn : (text : List ℕ) (names : List Place) (es : List Entry) (i : ℕ) (d : Entry) (b : Bool) → i < length es → b ≡ unknown text names (get_or es i d) → undeclared text names (drop i es) ≡ cond b (Some (get_or es i d).place.field) (undeclared text names (drop (i + 1) es))
-undeclared_turn text names es i d b h p =
-    at_drop_more (undeclared text names) es i d h ∙ ap (λ v. cond v (Some (get_or es i d).place.field) (undeclared text names (drop (i + 1) es))) (sym p)
-
--- a number that is not held
-pub unheld_turn : (means : Pair → Option Frac) (code : Frac → Option Pair) (es : List Entry) (i : ℕ) (d : Entry) (b : Bool) → i < length es → b ≡ not_held means code (get_or es i d).token → unheld means code (drop i es) ≡ cond b (Some (get_or es i d).place.field) (unheld means code (drop (i + 1) es))
-unheld_turn means code es i d b h p =
-    at_drop_more (unheld means code) es i d h ∙ ap (λ v. cond v (Some (get_or es i d).place.field) (unheld means code (drop (i + 1) es))) (sym p)
+-- the first that passes, found by the library
+pub found_field : (test : Entry → Bool) (es : List Entry) → option_map (λ e. e.place.field) (find test es) ≡ first_field test es
+found_field test [] = refl
+found_field test (e ∷ es) = by (test e) (found_field test es)
+  where
+    by : (b : Bool) → option_map (λ (d : Entry). d.place.field) (find test es) ≡ first_field test es → option_map (λ (d : Entry). d.place.field) (cond b (Some e) (find test es)) ≡ cond b (Some e.place.field) (first_field test es)
+    by true h = refl
+    by false h = h
 
 pub or_true : (b c : Bool) → b ≡ true → (b || c) ≡ true
 or_true b c p = rw p

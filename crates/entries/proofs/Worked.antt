@@ -13,8 +13,8 @@ use Rattle.motion.specs.Lines as L
 use Rattle.motion.specs.Items.{Value, num, truth, Got, good, bad, bind, wait, number_at, quotient_at, truth_at, nth, calculated, item, items}
 use Rattle.entries.specs.declared.sorts.Sort.{Sort}
 use Rattle.entries.specs.declared.sorts.Sort.TheVariants as s
-use Rattle.entries.specs.Sorts.{push, of_numbers, of_truths, of_truth, operate, after_item, and_then, after_items}
-use Rattle.entries.specs.Decoding.{frac_of_number, operator_item, item_of, items_of}
+use Rattle.entries.specs.Sorts.{push, of_sorts, operate, after_item, and_then, after_items}
+use Rattle.entries.specs.Decoding.{frac_of_number, or_none, operator_item, item_of, items_of}
 use Rattle.entries.specs.Running.{sort_of, Sorted, wait_so, zero_divisor, not_held, ItemsSorted}
 
 -- one value of a sort, or a fault
@@ -54,21 +54,21 @@ module _ {V : Type 0} where
       by false h = let z : ◌≡◌ {A = ℕ} 0 1 = cc in absurd (omega arith)
 
   module _ (N : Numbers V) (env : List V) (f : ℕ) where
-    numbers_worked : (c : Calculation) (r : Sort) (vs : List (Value V)) (ws : List Sort) → ((a b : V) → One r (calculated N f c a b)) → of_numbers r (map sort_of vs) ≡ Some ws → Sorted ws (item N env f (L.calculate c) vs)
+    numbers_worked : (c : Calculation) (r : Sort) (vs : List (Value V)) (ws : List Sort) → ((a b : V) → One r (calculated N f c a b)) → of_sorts (s.Number ∷ s.Number ∷ []) r (map sort_of vs) ≡ Some ws → Sorted ws (item N env f (L.calculate c) vs)
     numbers_worked c r [] ws k h = let z : ◌≡◌ {A = ℕ} 0 1 = cc in absurd (omega arith)
     numbers_worked c r (truth b ∷ vs) ws k h = let z : ◌≡◌ {A = ℕ} 0 1 = cc in absurd (omega arith)
     numbers_worked c r (num b ∷ []) ws k h = let z : ◌≡◌ {A = ℕ} 0 1 = cc in absurd (omega arith)
     numbers_worked c r (num b ∷ truth a ∷ vs) ws k h = let z : ◌≡◌ {A = ℕ} 0 1 = cc in absurd (omega arith)
     numbers_worked c r (num b ∷ num a ∷ vs) ws k h = on_top r ws vs (calculated N f c a b) (k a b) (cc)
 
-    truths_worked : (c : Connective) (vs : List (Value V)) (ws : List Sort) → of_truths (map sort_of vs) ≡ Some ws → Sorted ws (item N env f (L.combine c) vs)
+    truths_worked : (c : Connective) (vs : List (Value V)) (ws : List Sort) → of_sorts (s.Truth ∷ s.Truth ∷ []) s.Truth (map sort_of vs) ≡ Some ws → Sorted ws (item N env f (L.combine c) vs)
     truths_worked c [] ws h = let z : ◌≡◌ {A = ℕ} 0 1 = cc in absurd (omega arith)
     truths_worked c (num b ∷ vs) ws h = let z : ◌≡◌ {A = ℕ} 0 1 = cc in absurd (omega arith)
     truths_worked c (truth b ∷ []) ws h = let z : ◌≡◌ {A = ℕ} 0 1 = cc in absurd (omega arith)
     truths_worked c (truth b ∷ num a ∷ vs) ws h = let z : ◌≡◌ {A = ℕ} 0 1 = cc in absurd (omega arith)
     truths_worked c (truth b ∷ truth a ∷ vs) ws h = wait_so (cc)
 
-    truth_worked : (vs : List (Value V)) (ws : List Sort) → of_truth (map sort_of vs) ≡ Some ws → Sorted ws (item N env f L.negate vs)
+    truth_worked : (vs : List (Value V)) (ws : List Sort) → of_sorts (s.Truth ∷ []) s.Truth (map sort_of vs) ≡ Some ws → Sorted ws (item N env f L.negate vs)
     truth_worked [] ws h = let z : ◌≡◌ {A = ℕ} 0 1 = cc in absurd (omega arith)
     truth_worked (num b ∷ vs) ws h = let z : ◌≡◌ {A = ℕ} 0 1 = cc in absurd (omega arith)
     truth_worked (truth b ∷ vs) ws h = wait_so (cc)
@@ -84,11 +84,11 @@ module _ {V : Type 0} where
     operator_worked o.Or vs ws h = truths_worked L.or vs ws h
     operator_worked o.Not vs ws h = truth_worked vs ws h
 
-    item_worked : (t : Token) (x : ℕ) (vs : List (Value V)) (ws : List Sort) → after_item t (map sort_of vs) ≡ Some ws → Sorted ws (item N env f (item_of t x) vs)
+    item_worked : (t : Token) (x : Option ℕ) (vs : List (Value V)) (ws : List Sort) → after_item t (map sort_of vs) ≡ Some ws → Sorted ws (item N env f (item_of t x) vs)
     item_worked (token.Word (word.Line v)) x vs ws h = let z : ◌≡◌ {A = ℕ} 0 1 = cc in absurd (omega arith)
     item_worked (token.Word (word.Item p)) x vs ws h = operator_worked p vs ws h
     item_worked (token.Word word.One) x vs ws h = let z : ◌≡◌ {A = ℕ} 0 1 = cc in absurd (omega arith)
-    item_worked token.Name x vs ws h = on_top s.Number ws vs (number_at f (nth env x)) (a_number f (nth env x)) (pushed s.Number vs ws h)
+    item_worked token.Name x vs ws h = on_top s.Number ws vs (number_at f (nth env (or_none x))) (a_number f (nth env (or_none x))) (pushed s.Number vs ws h)
     item_worked (token.Number n) x vs ws h = on_top s.Number ws vs (number_at f (N.literal (frac_of_number n))) (a_number f (N.literal (frac_of_number n))) (pushed s.Number vs ws h)
     item_worked token.Other x vs ws h = let z : ◌≡◌ {A = ℕ} 0 1 = cc in absurd (omega arith)
 
@@ -97,7 +97,7 @@ module _ {V : Type 0} where
   goes_on m ws _ k zero_divisor h = zero_divisor
   goes_on m ws _ k not_held h = not_held
 
-  items_worked : (N : Numbers V) (env : List V) (f : ℕ) (es : List Entry) (xs : List ℕ) (vs : List (Value V)) (ws : List Sort) → length es ≡ length xs → after_items es (map sort_of vs) ≡ Some ws → Sorted ws (items N env f (items_of es xs) vs)
+  items_worked : (N : Numbers V) (env : List V) (f : ℕ) (es : List Entry) (xs : List (Option ℕ)) (vs : List (Value V)) (ws : List Sort) → length es ≡ length xs → after_items es (map sort_of vs) ≡ Some ws → Sorted ws (items N env f (items_of es xs) vs)
   items_worked N env f [] xs vs ws l h = wait_so (cc)
   items_worked N env f (e ∷ es) [] vs ws l h = absurd (omega arith)
   items_worked N env f (e ∷ es) (x ∷ xs) vs ws l h =

@@ -16,24 +16,25 @@ use Rattle.number.specs.Frac.{Frac, norm}
 use Rattle.motion.specs.Lines.{Line, var_line, set_line, run_line, rate_line, if_line, else_line, while_line, end_line, Item, number, name, calculate, combine, negate, Part, Rate, Of, one, var}
 use Rattle.motion.specs.Lines as L
 use Rattle.entries.specs.declared.rows.Row.{Row}
+use Rattle.entries.specs.declared.resolved.Resolved.{Resolved}
 use Rattle.entries.specs.Fields.{first_word, is_name, find, signed, head_of, second_place}
 
 -- the fraction that a number as written is
 abbrev pub frac_of_number : Number → Frac
 frac_of_number n = norm (signed n.minus n.top) n.bottom
 
--- no place among the variables, of which there are at most 16
+-- a place among the variables as a line holds it: 16, of which there is none, where a name has no place
 abbrev pub or_none : Option ℕ → ℕ
 or_none (Some i) = i
 or_none None = 16
 
--- the place among these names of the name that stands there; 16 where it is none of them
-abbrev pub place_at : List ℕ → List Place → Place → ℕ
-place_at text names p = or_none (find text names 0 (bytes_at text p))
+-- the place among these names of the name that stands there, if it is one of them
+abbrev pub place_at : List ℕ → List Place → Place → Option ℕ
+place_at text names p = find text names 0 (bytes_at text p)
 
--- the same of an entry; 16 where it is no name
-abbrev pub place_of : List ℕ → List Place → Entry → ℕ
-place_of text names e = cond (is_name e.token) (place_at text names e.place) 16
+-- the same of an entry; none where it is no name
+abbrev pub place_of : List ℕ → List Place → Entry → Option ℕ
+place_of text names e = cond (is_name e.token) (place_at text names e.place) None
 
 abbrev pub operator_item : Operator → Item
 operator_item o.Add = calculate L.add
@@ -52,14 +53,14 @@ word_item (word.Item o) = operator_item o
 word_item word.One = negate
 
 -- an item, by what its entry is and its place among the variables
-abbrev pub item_of : Token → ℕ → Item
+abbrev pub item_of : Token → Option ℕ → Item
 item_of (token.Word w) x = word_item w
-item_of token.Name x = name x
+item_of token.Name x = name (or_none x)
 item_of (token.Number n) x = number (frac_of_number n)
 item_of token.Other x = negate
 
 -- items, by their entries and the places of these
-abbrev pub items_of : List Entry → List ℕ → List Item
+abbrev pub items_of : List Entry → List (Option ℕ) → List Item
 items_of [] xs = []
 items_of (e ∷ es) [] = []
 items_of (e ∷ es) (x ∷ xs) = item_of e.token x ∷ items_of es xs
@@ -72,17 +73,17 @@ coefficient_of (token.Number n) = frac_of_number n
 coefficient_of token.Other = norm (pos 0) 1
 
 -- what a part multiplies
-abbrev pub factor_of : Token → ℕ → Of
+abbrev pub factor_of : Token → Option ℕ → Of
 factor_of (token.Word w) x = one
-factor_of token.Name x = var x
+factor_of token.Name x = var (or_none x)
 factor_of (token.Number n) x = one
 factor_of token.Other x = one
 
-abbrev pub part_of : Token → Token → ℕ → Part
+abbrev pub part_of : Token → Token → Option ℕ → Part
 part_of c v x = record { coefficient = coefficient_of c; of = factor_of v x }
 
 -- parts, of two entries each
-abbrev pub parts_of : List Entry → List ℕ → List Part
+abbrev pub parts_of : List Entry → List (Option ℕ) → List Part
 parts_of [] xs = []
 parts_of (c ∷ []) xs = []
 parts_of (c ∷ v ∷ es) [] = []
@@ -106,11 +107,11 @@ before_items w.While = 1
 before_items w.End = 1
 
 -- a line of this word, by the place of its name, and the entries behind with their places
-abbrev pub line_by : LineWord → ℕ → List Entry → List ℕ → Line
+abbrev pub line_by : LineWord → Option ℕ → List Entry → List (Option ℕ) → Line
 line_by w.Var x es xs = var_line (value_of es)
-line_by w.Set x es xs = set_line x (items_of es xs)
+line_by w.Set x es xs = set_line (or_none x) (items_of es xs)
 line_by w.Run x es xs = run_line (items_of es xs)
-line_by w.Rate x es xs = rate_line (record { name = x; parts = parts_of es xs })
+line_by w.Rate x es xs = rate_line (record { name = or_none x; parts = parts_of es xs })
 line_by w.If x es xs = if_line (items_of es xs)
 line_by w.Else x es xs = else_line
 line_by w.While x es xs = while_line (items_of es xs)
@@ -143,7 +144,7 @@ abbrev pub script_of : List ℕ → List (List Entry) → List Line
 script_of text ls = map (line_of text (names_of ls)) ls
 
 -- a line's row: its word, the place of its name, and where its entries lie of which the first stands at `at`
-abbrev pub row_by : LineWord → ℕ → ℕ → ℕ → Row
+abbrev pub row_by : LineWord → Option ℕ → ℕ → ℕ → Row
 row_by w x at n = record { word = w; name = x; from = at + before_items w; to = at + n }
 
 abbrev pub row_of : List ℕ → List Place → ℕ → List Entry → Row
@@ -159,9 +160,21 @@ abbrev pub part : {A : Type 0} → ℕ → ℕ → List A → List A
 part from to xs = take (to - from) (drop from xs)
 
 -- the line that a row stands for, over entries and their places
-abbrev pub row_line : List Entry → List ℕ → Row → Line
+abbrev pub row_line : List Entry → List (Option ℕ) → Row → Line
 row_line es xs r = line_by r.word r.name (part r.from r.to es) (part r.from r.to xs)
 
 -- the lines that rows stand for
-abbrev pub rows_lines : List Entry → List ℕ → List Row → List Line
+abbrev pub rows_lines : List Entry → List (Option ℕ) → List Row → List Line
 rows_lines es xs rows = map (row_line es xs) rows
+
+-- the items that resolved entries are
+abbrev pub items_in : Resolved → List Item
+items_in r = items_of r.entries.now r.variables.now
+
+-- the parts that they are
+abbrev pub parts_in : Resolved → List Part
+parts_in r = parts_of r.entries.now r.variables.now
+
+-- the lines that rows over them stand for
+abbrev pub lines_over : Resolved → List Row → List Line
+lines_over r rows = rows_lines r.entries.now r.variables.now rows

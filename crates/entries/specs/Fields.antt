@@ -1,5 +1,6 @@
 -- What the fields of a line are: its word, the names and the numbers among them. Total on any entries.
 use Rattle.std.specs.Prelude.{ℕ, ◌+◌, Bool, true, false, cond, ◌&&◌, List, [], ◌∷◌, ℤ, pos, neg_ℤ, Some, None, Ok, Err, Option, Result, ◌==◌}
+use Rattle.std.specs.List.{position_from}
 use Rattle.std.specs.Str.{bytes_eq}
 use Rattle.script.specs.declared.words.LineWord.{LineWord}
 use Rattle.script.specs.declared.words.LineWord.TheVariants.{Var, End}
@@ -84,8 +85,12 @@ is_none None = true
 
 -- the place of this name among those that stand at these places of the text, numbered from `i` on
 abbrev pub find : List ℕ → List Place → ℕ → List ℕ → Option ℕ
-find text [] i name = None
-find text (p ∷ ps) i name = cond (bytes_eq (bytes_at text p) name) (Some i) (find text ps (i + 1) name)
+find text names i name = position_from (λ p. bytes_eq (bytes_at text p) name) i names
+
+-- the field of the first of these entries that passes a test
+abbrev pub first_field : (Entry → Bool) → List Entry → Option ℕ
+first_field test [] = None
+first_field test (e ∷ es) = cond (test e) (Some e.place.field) (first_field test es)
 
 -- an entry is a name that is not among these
 abbrev pub unknown : List ℕ → List Place → Entry → Bool
@@ -93,8 +98,7 @@ unknown text names e = is_name e.token && is_none (find text names 0 (bytes_at t
 
 -- the field of the first name that is not among these
 abbrev pub undeclared : List ℕ → List Place → List Entry → Option ℕ
-undeclared text names [] = None
-undeclared text names (e ∷ es) = cond (unknown text names e) (Some e.place.field) (undeclared text names es)
+undeclared text names = first_field (unknown text names)
 
 -- numbers ---------------------------------------------------------------------
 
@@ -121,5 +125,4 @@ module _ (means : Pair → Option Frac) (code : Frac → Option Pair) where
 
   -- the field of the first number that is not held
   abbrev pub unheld : List Entry → Option ℕ
-  unheld [] = None
-  unheld (e ∷ es) = cond (not_held e.token) (Some e.place.field) (unheld es)
+  unheld = first_field (λ e. not_held e.token)

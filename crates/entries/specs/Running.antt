@@ -1,5 +1,5 @@
 -- What the items of a line that passed can come to when they are worked out.
-use Rattle.std.specs.Prelude.{◌≡◌, ℕ, List, [], map, length, Some}
+use Rattle.std.specs.Prelude.{◌≡◌, ℕ, List, [], map, length, Some, Option}
 use Rattle.script.specs.declared.reading.Entry.{Entry}
 use Rattle.motion.specs.Numbers.{Numbers}
 use Rattle.motion.specs.Items.{Value, num, truth, Got, good, bad, items}
@@ -23,5 +23,5 @@ pub data Sorted {V : Type 0} (waits : List Sort) : Got (List (Value V)) → Type
 -- values: no rule of items is broken when they are worked out.
 abbrev pub ItemsSorted : Type 0 → Type 0
 ItemsSorted V =
-    (N : Numbers V) (env : List V) (f : ℕ) (es : List Entry) (xs : List ℕ) (waits : List Sort) →
+    (N : Numbers V) (env : List V) (f : ℕ) (es : List Entry) (xs : List (Option ℕ)) (waits : List Sort) →
     length es ≡ length xs → after_items es [] ≡ Some waits → Sorted waits (items N env f (items_of es xs) [])

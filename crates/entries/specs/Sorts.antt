@@ -1,5 +1,6 @@
 -- The rules of items: what waits after each, by sort alone. Total on any entries.
-use Rattle.std.specs.Prelude.{ℕ, zero, suc, ◌≤◌, Bool, true, false, cond, List, [], ◌∷◌, length, Some, None, Option, nat_lt, slice_index_or}
+use Rattle.std.specs.Prelude.{Bool, true, false, cond, List, [], ◌∷◌, length, reverse, Some, None, Option, nat_lt}
+use Rattle.arrayvec.specs.ArrayVec.{ArrayVec}
 use Rattle.script.specs.declared.words.Operator.{Operator}
 use Rattle.script.specs.declared.words.Operator.TheVariants.{Add, Sub, Mul, Div, Lt, Le, And, Or, Not}
 use Rattle.script.specs.declared.words.Word.{Word}
@@ -9,54 +10,33 @@ use Rattle.script.specs.declared.tokens.Token.TheVariants as token
 use Rattle.script.specs.declared.reading.Entry.{Entry}
 use Rattle.entries.specs.declared.sorts.Sort.{Sort}
 use Rattle.entries.specs.declared.sorts.Sort.TheVariants.{Number, Truth}
-use Rattle.entries.specs.declared.sorts.Pile.{Pile}
-
--- the first `n` of a pile's slots, the last first
-abbrev pub piled : ℕ → List Sort → List Sort
-piled zero slots = []
-piled (suc n) slots = slice_index_or slots n Number ∷ piled n slots
 
 -- what waits, the last first
-abbrev pub waiting : Pile → List Sort
-waiting p = piled p.depth p.slots
+abbrev pub waiting : ArrayVec Sort → List Sort
+waiting pile = reverse pile.items
 
 -- one result more waits; at most 8 can
 abbrev pub push : Sort → List Sort → Option (List Sort)
 push s waits = cond (nat_lt (length waits) 8) (Some (s ∷ waits)) None
 
--- two numbers give way to one result
-abbrev pub of_numbers : Sort → List Sort → Option (List Sort)
-of_numbers s [] = None
-of_numbers s (Truth ∷ r) = None
-of_numbers s (Number ∷ []) = None
-of_numbers s (Number ∷ Truth ∷ r) = None
-of_numbers s (Number ∷ Number ∷ r) = Some (s ∷ r)
-
--- two truths give way to one
-abbrev pub of_truths : List Sort → Option (List Sort)
-of_truths [] = None
-of_truths (Number ∷ r) = None
-of_truths (Truth ∷ []) = None
-of_truths (Truth ∷ Number ∷ r) = None
-of_truths (Truth ∷ Truth ∷ r) = Some (Truth ∷ r)
-
--- one truth gives way to another
-abbrev pub of_truth : List Sort → Option (List Sort)
-of_truth [] = None
-of_truth (Number ∷ r) = None
-of_truth (Truth ∷ r) = Some (Truth ∷ r)
+-- results of these sorts, the last first, give way to one
+abbrev pub of_sorts : List Sort → Sort → List Sort → Option (List Sort)
+of_sorts [] s waits = Some (s ∷ waits)
+of_sorts (Number ∷ os) s (Number ∷ waits) = of_sorts os s waits
+of_sorts (Truth ∷ os) s (Truth ∷ waits) = of_sorts os s waits
+of_sorts (o ∷ os) s waits = None
 
 -- what waits after an operator, if it finds operands of its sort
 abbrev pub operate : Operator → List Sort → Option (List Sort)
-operate Add = of_numbers Number
-operate Sub = of_numbers Number
-operate Mul = of_numbers Number
-operate Div = of_numbers Number
-operate Lt = of_numbers Truth
-operate Le = of_numbers Truth
-operate And = of_truths
-operate Or = of_truths
-operate Not = of_truth
+operate Add = of_sorts (Number ∷ Number ∷ []) Number
+operate Sub = of_sorts (Number ∷ Number ∷ []) Number
+operate Mul = of_sorts (Number ∷ Number ∷ []) Number
+operate Div = of_sorts (Number ∷ Number ∷ []) Number
+operate Lt = of_sorts (Number ∷ Number ∷ []) Truth
+operate Le = of_sorts (Number ∷ Number ∷ []) Truth
+operate And = of_sorts (Truth ∷ Truth ∷ []) Truth
+operate Or = of_sorts (Truth ∷ Truth ∷ []) Truth
+operate Not = of_sorts (Truth ∷ []) Truth
 
 abbrev pub by_reserved : Word → List Sort → Option (List Sort)
 by_reserved (word.Line w) waits = None
@@ -81,13 +61,9 @@ after_items (e ∷ es) waits = and_then (after_item e.token waits) (after_items 
 
 -- one result of this sort alone
 abbrev pub alone : Sort → List Sort → Bool
-alone s [] = false
 alone Number (Number ∷ []) = true
 alone Truth (Truth ∷ []) = true
-alone Number (Truth ∷ []) = false
-alone Truth (Number ∷ []) = false
-alone Number (a ∷ b ∷ r) = false
-alone Truth (a ∷ b ∷ r) = false
+alone s waits = false
 
 abbrev pub came_to : Sort → Option (List Sort) → Bool
 came_to s (Some waits) = alone s waits
@@ -97,12 +73,12 @@ came_to s None = false
 abbrev pub gives : Sort → List Entry → Bool
 gives s es = came_to s (after_items es [])
 
--- a pile as what waits
-abbrev pub seen : Option Pile → Option (List Sort)
-seen (Some p) = Some (waiting p)
-seen None = None
+-- what waits after an answer
+abbrev pub seen : Option Unit → ArrayVec Sort → Option (List Sort)
+seen (Some u) pile = Some (waiting pile)
+seen None pile = None
 
--- at most 8 wait
-abbrev pub Small : Option Pile → Type 0
-Small (Some p) = p.depth ≤ 8
-Small None = Unit {0}
+-- an answered pile as what waits
+abbrev pub seen_pile : Option (ArrayVec Sort) → Option (List Sort)
+seen_pile (Some pile) = Some (waiting pile)
+seen_pile None = None

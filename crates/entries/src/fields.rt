@@ -1,21 +1,17 @@
 // The fields of a line: its word, the names and the numbers among them.
 ghost use Rattle.std.specs.Prelude.{◌≡◌, ℕ, ◌<◌, Bool, length, IfSome};
-ghost use Rattle.std.specs.Str.{bytes_eq};
 ghost use Rattle.script.specs.Places.{bytes_at};
 ghost use Rattle.entries.specs.Fields.{first_word, is_name, find, unknown, undeclared, signed, not_held, unheld};
 
 use number::Kind;
-use script::{Entry, LineWord, Place, Token, Word};
+use script::{Entry, LineWord, Number, Place, Token, Word};
 
 // The line word that a field is; end, where it is none.
 pub fn word_of(token: Token) -> LineWord
     ensures { result ≡ first_word token }
 {
     match token {
-        Token::Word(word) => match word {
-            Word::Line(line_word) => line_word,
-            _ => LineWord::End,
-        },
+        Token::Word(Word::Line(line_word)) => line_word,
         _ => LineWord::End,
     }
 }
@@ -23,16 +19,7 @@ pub fn word_of(token: Token) -> LineWord
 pub fn is_name(token: Token) -> bool
     ensures { result ≡ is_name token }
 {
-    match token {
-        Token::Name => true,
-        _ => false,
-    }
-}
-
-fn same_bytes(a: &[u8], b: &[u8]) -> bool
-    ensures { result ≡ bytes_eq a.now b.now }
-{
-    a == b
+    token == Token::Name
 }
 
 // The place of this name among those that stand at these places of the text.
@@ -40,12 +27,7 @@ pub fn find_name(text: &[u8], names: &[Place], name: &[u8]) -> Option<usize>
     ensures found { result ≡ find text.now names.now 0 name.now }
     ensures within { IfSome result (λ i. i < length names.now) }
 {
-    for i in 0..names.len() {
-        if same_bytes(names[i].bytes(text), name) {
-            return Some(i);
-        }
-    }
-    None
+    names.iter().position(|place| place.bytes(text) == name)
 }
 
 // Is a name that is not among these.
@@ -59,19 +41,17 @@ fn is_unknown(text: &[u8], names: &[Place], entry: Entry) -> bool
 pub fn first_undeclared(text: &[u8], names: &[Place], line: &[Entry]) -> Option<usize>
     ensures { result ≡ undeclared text.now names.now line.now }
 {
-    for e in line {
-        if is_unknown(text, names, *e) {
-            return Some(e.place.field);
-        }
-    }
-    None
+    line.iter()
+        .find(|entry| is_unknown(text, names, **entry))
+        .map(|entry| entry.place.field)
 }
 
-// A number as written, with its sign.
-fn with_sign(minus: bool, top: u32) -> i64
-    ensures { result ≡ signed minus top }
+// The numerator of a number as written, with its sign.
+pub fn numerator(number: Number) -> i64
+    ensures { result ≡ signed number.minus number.top }
 {
-    if minus { -(top as i64) } else { top as i64 }
+    let top = number.top as i64;
+    if number.minus { -top } else { top }
 }
 
 // Is a number that the kind does not hold.
@@ -79,10 +59,7 @@ fn is_unheld<K: Kind>(token: Token) -> bool
     ensures { result ≡ not_held K.Kind.means K.Kind.code token }
 {
     match token {
-        Token::Number(n) => match K::take(with_sign(n.minus, n.top), n.bottom as i64) {
-            Ok(_) => false,
-            Err(_) => true,
-        },
+        Token::Number(n) => K::take(numerator(n), n.bottom as i64).is_err(),
         _ => false,
     }
 }
@@ -91,10 +68,7 @@ fn is_unheld<K: Kind>(token: Token) -> bool
 pub fn first_unheld<K: Kind>(line: &[Entry]) -> Option<usize>
     ensures { result ≡ unheld K.Kind.means K.Kind.code line.now }
 {
-    for e in line {
-        if is_unheld::<K>(e.token) {
-            return Some(e.place.field);
-        }
-    }
-    None
+    line.iter()
+        .find(|entry| is_unheld::<K>(entry.token))
+        .map(|entry| entry.place.field)
 }

@@ -4,12 +4,14 @@
 ghost use Rattle.entries.specs.Running.{ItemsSorted};
 
 mod fields;
+mod resolved;
 mod rows;
 mod sorts;
 mod tables;
 
-pub use fields::{find_name, first_undeclared, first_unheld, is_name, word_of};
-pub use rows::{Row, between};
+pub use fields::{find_name, first_undeclared, first_unheld, is_name, numerator, word_of};
+pub use resolved::Resolved;
+pub use rows::{NO_VARIABLE, Row, between};
 pub use sorts::{Sort, items_give};
 pub use tables::same_table;
 

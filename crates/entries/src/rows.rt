@@ -4,12 +4,15 @@ ghost use Rattle.entries.specs.Decoding.{part};
 
 use script::LineWord;
 
-// A line: its word, the place of its name among the variables (16 where it has none),
+// A place that no variable has.
+pub const NO_VARIABLE: u8 = 16;
+
+// A line: its word, the place of its name among the variables, if it has one,
 // and where the entries of its items, parts or value lie.
-#[derive(Clone, Copy)]
+#[derive(Clone, Copy, PartialEq, Eq, Debug)]
 pub struct Row {
     pub word: LineWord,
-    pub name: u8,
+    pub name: Option<u8>,
     pub from: usize,
     pub to: usize,
 }
@@ -18,10 +21,5 @@ pub struct Row {
 pub fn between<T>(xs: &[T], from: usize, to: usize) -> &[T]
     ensures { result.now ≡ part from to xs.now }
 {
-    let end = if to < xs.len() { to } else { xs.len() };
-    if from <= end {
-        &xs[from..end]
-    } else {
-        &xs[0..0]
-    }
+    xs.get(from..to.min(xs.len())).unwrap_or(&[])
 }

@@ -1,18 +1,17 @@
 -- The laws of what is written.
-use Rattle.std.proofs.Common.{◌≡◌, ℕ, ◌-◌, ◌*◌, ◌≤◌, true, false, leb, List, [], ◌∷◌, ◌++◌, length, take, is_some, Some, None, Option, sym, refl, ap, ◌∙◌, arith}
+use Rattle.std.proofs.Common.{◌≡◌, ℕ, ◌+◌, ◌*◌, ◌≤◌, true, false, leb, List, [], ◌∷◌, ◌++◌, length, take, drop, is_some, Some, None, Option, refl, ap, ◌∙◌, ap₂, arith}
 use Rattle.std.specs.List.{AllByRecursion}
 use Rattle.std.proofs.lemmas.Fmt.{length-decimal-le}
-use Rattle.std.proofs.lemmas.List.{length-append}
-use Rattle.std.proofs.lemmas.Bool.{and_from, and_parts, le-leb, leb-true, lt-leb, cond-false, both_ways}
+use Rattle.std.proofs.lemmas.List.{length-append, length-take-le}
+use Rattle.std.proofs.lemmas.Bool.{and_from, and_parts, le-leb, leb-true, both_ways}
 use Rattle.number.specs.declared.Pair.{Pair}
 use Rattle.number.specs.Frac.{Frac}
 use Rattle.number.specs.Kind.{Holds}
 use Rattle.record.specs.declared.Bench.{Bench}
 use Rattle.record.specs.Benches.{pairs_of, bench_of}
 use Rattle.handover.specs.Texts.{count_text}
-use Rattle.handover.specs.Lines.{head_text, fields_by, meant_text, all_meant, writable, line_of, copied, copied_size}
+use Rattle.handover.specs.Lines.{head_text, fields_by, meant_text, all_meant, writable, line_of}
 use Rattle.handover.specs.Laws.{OfKind, Writable, Writes, ShortLines}
-use Rattle.handover.proofs.Adding.{copied_whole, copied_size_whole}
 use Rattle.handover.proofs.Valued.{meant_short, short_decimal}
 
 -- ---- the test of a bench
@@ -37,22 +36,15 @@ has_no_line : (means : Pair → Option Frac) (b : Bench) → writable means b �
 has_no_line means b e w =
     both_ways (writable means b) e (and_from _ _ (le-leb b.values.count 16 w.few) (all_are_meant means (pairs_of b.values) w.numbers))
 
--- the code tests the values of the slice from 0 to their count
-pub writable_from : (means : Pair → Option Frac) (b : Bench) → b.values.count ≤ 16 → true ≡ all_meant means (take (b.values.count - 0) b.values.pairs) → writable means b ≡ true
-writable_from means b h e =
-    let whole : b.values.count - 0 ≡ b.values.count = omega arith in
-    and_from _ _ (le-leb b.values.count 16 h) (sym (e ∙ ap (λ n. all_meant means (take n b.values.pairs)) whole))
-
 -- ---- what is written
-pub writes_line : (means : Pair → Option Frac) (b : Bench) (old : List ℕ) (r : Option ℕ) (new text : List ℕ) → writable means b ≡ true → text ≡ line_of means (bench_of b) → r ≡ copied_size text old → new ≡ copied text old → Writes means b old r new
-writes_line means b old r new text w e er en =
-    let line = line_of means (bench_of b) in
-    let er' : r ≡ copied_size line old = er ∙ ap (λ bs. copied_size bs old) e in
-    let en' : new ≡ copied line old = en ∙ ap (λ bs. copied bs old) e in
+-- the text of the line at the front of a buffer that is long enough
+pub writes_line : (means : Pair → Option Frac) (b : Bench) (old text front : List ℕ) (n : ℕ) → writable means b ≡ true → text ≡ line_of means (bench_of b) → n ≡ length text → n ≤ length old → front ≡ text → Writes means b old (Some n) (front ++ drop n old)
+writes_line means b old text front n w e size h f =
+    let long : n ≡ length (line_of means (bench_of b)) = size ∙ ap length e in
     record {
-      whole = λ _ h. (er' ∙ copied_size_whole line old (length line) refl h, en' ∙ copied_whole line old (length line) refl h);
-      too_short = λ _ h. (er' ∙ cond-false _ _ _ (lt-leb (length line) (length old) h), en' ∙ cond-false _ _ _ (lt-leb (length line) (length old) h));
-      no_line = λ n. absurd (n (has_line means b w));
+      whole = λ _ _. (ap Some long, ap₂ (λ bs k. bs ++ drop k old) (f ∙ e) long);
+      too_short = λ _ k. absurd (omega (arith, h, long, k));
+      no_line = λ m. absurd (m (has_line means b w));
     }
 
 pub writes_nothing : (means : Pair → Option Frac) (b : Bench) (old : List ℕ) → writable means b ≡ false → Writes means b old None old
@@ -66,6 +58,12 @@ writes_nothing means b old e = record {
 fields_short : {V : Type 0} (f : V → List ℕ) (vs : List V) → ((v : V) → length (f v) ≤ 22) → length (fields_by f vs) ≤ 23 * length vs
 fields_short f [] h = omega arith
 fields_short f (v ∷ vs) h = omega (arith, length-append (44 ∷ f v) (fields_by f vs), h v, fields_short f vs h)
+
+-- a text with the first of the values behind it
+pub text_short : (means : Pair → Option Frac) (code : Frac → Option Pair) → Holds means code → (head text : List ℕ) (ps : List Pair) (i : ℕ) → i ≤ length ps → text ≡ head ++ fields_by (λ p. meant_text (means p)) (take i ps) → length text ≤ length head + 23 * i
+text_short means code laws head text ps i h e =
+    let f : Pair → List ℕ = λ p. meant_text (means p) in
+    omega (arith, ap length e, length-append head (fields_by f (take i ps)), fields_short f (take i ps) (meant_short means code laws), length-take-le i ps h)
 
 head_short : (line left total over : ℕ) → line ≤ 257 → left ≤ 2147483647 → total ≤ 2147483647 → over ≤ 2147483647 → length (head_text line left total over) ≤ 42
 head_short line left total over h1 h2 h3 h4 =

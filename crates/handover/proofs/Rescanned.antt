@@ -1,6 +1,7 @@
 -- The fields of a line that is written.
-use Rattle.std.proofs.Common.{◌≡◌, ℕ, suc, ◌+◌, ◌-◌, ◌*◌, ◌<◌, ◌≤◌, Bool, true, false, cond, eqb, ltb, leb, List, [], ◌∷◌, ◌++◌, map, length, ℤ, pos, negsuc, nat_abs, decimal, sym, refl, ap, ◌∙◌, ap₂, arith, rules}
+use Rattle.std.proofs.Common.{◌≡◌, ℕ, suc, ◌+◌, ◌-◌, ◌*◌, ◌<◌, ◌≤◌, Bool, true, false, cond, eqb, ltb, leb, List, [], ◌∷◌, ◌++◌, map, length, ℤ, pos, negsuc, nat_abs, Some, None, decimal, sym, refl, ap, ◌∙◌, ap₂, arith, rules}
 use Rattle.std.specs.Fmt.{signed_decimal}
+use Rattle.std.specs.Char.{is_ascii_digit}
 use Rattle.std.specs.List.{AllByRecursion}
 use Rattle.std.proofs.lemmas.Fmt.{digits_decimal, digits_value-decimal}
 use Rattle.std.proofs.lemmas.List.{append_assoc, length_push}
@@ -13,13 +14,13 @@ use Rattle.motion.specs.Machine as M
 use Rattle.handover.specs.declared.scanning.Number.{Number}
 use Rattle.handover.specs.Texts.{count_text, terms_text}
 use Rattle.handover.specs.Lines.{fields_by, fraction_text, text_of}
-use Rattle.handover.specs.Scans.{digit, blank, number, grown, with_digit, signed_by, pair_of_number, closed, scanned}
+use Rattle.handover.specs.Scans.{blank, number, grown, with_digit, signed_by, pair_of_number, closed, scanned}
 use Rattle.handover.specs.Laws.{Small, Plain}
 
 -- ---- a run of digits
 abbrev Run : List ℕ → Type 0
 Run [] = Unit {0}
-Run (b ∷ bs) = (digit b ≡ true) × Run bs
+Run (b ∷ bs) = (is_ascii_digit b ≡ true) × Run bs
 
 abbrev run_value : ℕ → List ℕ → ℕ
 run_value v [] = v
@@ -39,7 +40,7 @@ run mk grows fs v (b ∷ bs) rest h s =
     let d : ℕ = b - 48 in
     let small : v ≤ 214748364 = omega (arith, at_least (v * 10 + d) bs) in
     let more : with_digit (mk v) d ≡ mk (v * 10 + d) = grows v d ∙ ap mk (cond-true (leb v 214748364) (v * 10 + d) v (le-leb v 214748364 small)) in
-    cond-true (digit b) _ _ h.0 ∙ ap (λ x. scanned fs x (bs ++ rest)) more ∙ run mk grows fs (v * 10 + d) bs rest h.1 s
+    cond-true (is_ascii_digit b) _ _ h.0 ∙ ap (λ x. scanned fs x (bs ++ rest)) more ∙ run mk grows fs (v * 10 + d) bs rest h.1 s
 
 decimal_run : (mk : ℕ → Number) → ((v d : ℕ) → with_digit (mk v) d ≡ mk (grown v d)) → (fs : List Pair) (n : ℕ) (rest : List ℕ) → n ≤ 2147483647 → scanned fs (mk 0) (decimal n ++ rest) ≡ scanned fs (mk n) rest
 decimal_run mk grows fs n rest h =
@@ -51,23 +52,23 @@ abbrev below_zero : ℤ → Bool
 below_zero (pos n) = false
 below_zero (negsuc n) = true
 
-signed_run : (fs : List Pair) (z : ℤ) (rest : List ℕ) → nat_abs z ≤ 2147483647 → scanned fs blank (signed_decimal z ++ rest) ≡ scanned fs (number (below_zero z) (nat_abs z) false 0) rest
-signed_run fs (pos n) rest h = decimal_run (λ v. number false v false 0) (λ v d. refl) fs n rest h
-signed_run fs (negsuc n) rest h = decimal_run (λ v. number true v false 0) (λ v d. refl) fs (suc n) rest h
+signed_run : (fs : List Pair) (z : ℤ) (rest : List ℕ) → nat_abs z ≤ 2147483647 → scanned fs blank (signed_decimal z ++ rest) ≡ scanned fs (number (below_zero z) (nat_abs z) None) rest
+signed_run fs (pos n) rest h = decimal_run (λ v. number false v None) (λ v d. refl) fs n rest h
+signed_run fs (negsuc n) rest h = decimal_run (λ v. number true v None) (λ v d. refl) fs (suc n) rest h
 
 -- the number that n / d is read as
 abbrev terms_number : ℤ → ℕ → Number
-terms_number z d = cond (eqb d 1) (number (below_zero z) (nat_abs z) false 0) (number (below_zero z) (nat_abs z) true d)
+terms_number z d = cond (eqb d 1) (number (below_zero z) (nat_abs z) None) (number (below_zero z) (nat_abs z) (Some d))
 
 terms_run : (fs : List Pair) (z : ℤ) (d : ℕ) (rest : List ℕ) → nat_abs z ≤ 2147483647 → d ≤ 2147483647 → scanned fs blank (terms_text z (pos d) ++ rest) ≡ scanned fs (terms_number z d) rest
 terms_run fs z d rest h k = by (eqb d 1)
   where
-    by : (b : Bool) → scanned fs blank (cond b (signed_decimal z) (signed_decimal z ++ 47 ∷ decimal d) ++ rest) ≡ scanned fs (cond b (number (below_zero z) (nat_abs z) false 0) (number (below_zero z) (nat_abs z) true d)) rest
+    by : (b : Bool) → scanned fs blank (cond b (signed_decimal z) (signed_decimal z ++ 47 ∷ decimal d) ++ rest) ≡ scanned fs (cond b (number (below_zero z) (nat_abs z) None) (number (below_zero z) (nat_abs z) (Some d))) rest
     by true = signed_run fs z rest h
     by false =
         ap (scanned fs blank) (append_assoc (signed_decimal z) (47 ∷ decimal d) rest)
         ∙ signed_run fs z (47 ∷ (decimal d ++ rest)) h
-        ∙ decimal_run (λ v. number (below_zero z) (nat_abs z) true v) (λ v e. refl) fs d rest k
+        ∙ decimal_run (λ v. number (below_zero z) (nat_abs z) (Some v)) (λ v e. refl) fs d rest k
 
 signed_back : (z : ℤ) → signed_by (below_zero z) (nat_abs z) ≡ z
 signed_back (pos n) = refl
@@ -76,7 +77,7 @@ signed_back (negsuc n) = refl
 terms_back : (z : ℤ) (d : ℕ) → pair_of_number (terms_number z d) ≡ pair_from z d
 terms_back z d = by (eqb d 1) refl
   where
-    by : (b : Bool) → eqb d 1 ≡ b → pair_of_number (cond b (number (below_zero z) (nat_abs z) false 0) (number (below_zero z) (nat_abs z) true d)) ≡ pair_from z d
+    by : (b : Bool) → eqb d 1 ≡ b → pair_of_number (cond b (number (below_zero z) (nat_abs z) None) (number (below_zero z) (nat_abs z) (Some d))) ≡ pair_from z d
     by true e = ap₂ pair_from (signed_back z) (sym (eqb-true d 1 e))
     by false e = ap (λ y. pair_from y d) (signed_back z)
 
@@ -105,12 +106,12 @@ fields_run fs x (q ∷ qs) s h =
 abbrev pub count_pair : ℕ → Pair
 count_pair n = pair_from (pos n) 1
 
-count_run : (fs : List Pair) (x : Number) (n : ℕ) (more rest : List ℕ) → n ≤ 2147483647 → scanned fs x ((count_text n ++ more) ++ rest) ≡ scanned (closed fs (pair_of_number x)) (number false n false 0) (more ++ rest)
+count_run : (fs : List Pair) (x : Number) (n : ℕ) (more rest : List ℕ) → n ≤ 2147483647 → scanned fs x ((count_text n ++ more) ++ rest) ≡ scanned (closed fs (pair_of_number x)) (number false n None) (more ++ rest)
 count_run fs x n more rest h =
-    ap (scanned (closed fs (pair_of_number x)) blank) (append_assoc (decimal n) more rest) ∙ decimal_run (λ v. number false v false 0) (λ v d. refl) (closed fs (pair_of_number x)) n (more ++ rest) h
+    ap (scanned (closed fs (pair_of_number x)) blank) (append_assoc (decimal n) more rest) ∙ decimal_run (λ v. number false v None) (λ v d. refl) (closed fs (pair_of_number x)) n (more ++ rest) h
 
-last_run : (fs : List Pair) (x : Number) (n : ℕ) (rest : List ℕ) → n ≤ 2147483647 → scanned fs x (count_text n ++ rest) ≡ scanned (closed fs (pair_of_number x)) (number false n false 0) rest
-last_run fs x n rest h = decimal_run (λ v. number false v false 0) (λ v d. refl) (closed fs (pair_of_number x)) n rest h
+last_run : (fs : List Pair) (x : Number) (n : ℕ) (rest : List ℕ) → n ≤ 2147483647 → scanned fs x (count_text n ++ rest) ≡ scanned (closed fs (pair_of_number x)) (number false n None) rest
+last_run fs x n rest h = decimal_run (λ v. number false v None) (λ v d. refl) (closed fs (pair_of_number x)) n rest h
 
 -- all fields of a line
 pub fields_back : (w : M.Bench Frac) → Plain w → scanned [] blank (text_of w) ≡ pair_of_number blank ∷ count_pair w.line ∷ count_pair w.left ∷ count_pair w.total ∷ count_pair w.over ∷ map terms_pair w.values
@@ -123,7 +124,7 @@ fields_back w p =
     let c3 : List Pair = pair_of_number blank ∷ count_pair w.line ∷ count_pair w.left ∷ [] in
     let c4 : List Pair = pair_of_number blank ∷ count_pair w.line ∷ count_pair w.left ∷ count_pair w.total ∷ [] in
     count_run [] blank w.line left values (omega (arith, i.line_most))
-    ∙ count_run c1 (number false w.line false 0) w.left (count_text w.total ++ count_text w.over) values i.left_most
-    ∙ count_run c2 (number false w.left false 0) w.total (count_text w.over) values i.total_most
-    ∙ last_run c3 (number false w.total false 0) w.over values i.over_most
-    ∙ fields_run c4 (number false w.over false 0) w.values p.small (omega (arith, i.few))
+    ∙ count_run c1 (number false w.line None) w.left (count_text w.total ++ count_text w.over) values i.left_most
+    ∙ count_run c2 (number false w.left None) w.total (count_text w.over) values i.total_most
+    ∙ last_run c3 (number false w.total None) w.over values i.over_most
+    ∙ fields_run c4 (number false w.over None) w.values p.small (omega (arith, i.few))

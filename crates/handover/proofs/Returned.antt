@@ -1,5 +1,6 @@
 -- The bytes that are read as a bench are the lines of benches within the bounds.
 use Rattle.std.proofs.Common.{◌≡◌, ℕ, suc, ◌-◌, ◌≤◌, Bool, true, false, cond, ◌&&◌, T, ltb, leb, List, [], ◌∷◌, ◌++◌, map, length, get_or, drop, ℤ, pos, negsuc, Some, None, Option, sym, refl, ap, ◌∙◌, subst, ap₂, arith, leb→le}
+use Rattle.std.specs.Char.{is_ascii_digit}
 use Rattle.std.specs.List.{AllByRecursion}
 use Rattle.std.specs.Str.{bytes_eq}
 use Rattle.std.proofs.lemmas.Slice.Eq.{bytes_eq-Decides}
@@ -14,7 +15,7 @@ use Rattle.motion.specs.Machine as M
 use Rattle.handover.specs.declared.scanning.Number.{Number}
 use Rattle.handover.specs.Texts.{is_one}
 use Rattle.handover.specs.Lines.{head_text, fields_by, fraction_text, meant_text, text_of, all_meant, line_of}
-use Rattle.handover.specs.Scans.{digit, closes, blank, with_digit, with_mark, pair_of_number, closed, scanned}
+use Rattle.handover.specs.Scans.{closes, blank, with_digit, with_mark, pair_of_number, closed, scanned}
 use Rattle.handover.specs.Takes.{then, count_of, no_field, counted, bench_from, if_same, read_of}
 use Rattle.handover.specs.Laws.{OfKind, Within, Small, Plain, Formed}
 use Rattle.handover.proofs.Lawful.{meant_all, all_are_meant}
@@ -77,7 +78,7 @@ closed_few fs p h = by (ltb (length fs) 21) refl
 scanned_few : (fs : List Pair) (x : Number) (bs : List ℕ) → length fs ≤ 21 → length (scanned fs x bs) ≤ 21
 scanned_few fs x [] h = h
 scanned_few fs x (b ∷ bs) h =
-    cond_both (digit b) _ _ (λ ps. length ps ≤ 21) (λ _. scanned_few fs (with_digit x (b - 48)) bs h)
+    cond_both (is_ascii_digit b) _ _ (λ ps. length ps ≤ 21) (λ _. scanned_few fs (with_digit x (b - 48)) bs h)
     (λ _. cond_both (closes b) _ _ (λ ps. length ps ≤ 21) (λ _. scanned_few (closed fs (pair_of_number x)) blank bs (closed_few fs (pair_of_number x) h)) (λ _. scanned_few fs (with_mark x b) bs h))
 
 some_same : {A : Type 0} (a b : A) → ◌≡◌ {A = Option A} (Some a) (Some b) → a ≡ b

@@ -10,9 +10,9 @@ use Rattle.number.proofs.Fracs.{den_pos}
 use Rattle.number.proofs.Stand.{equality}
 use Rattle.number.proofs.Tests.{none_some}
 use Rattle.motion.specs.Machine as M
-use Rattle.record.specs.declared.Refusal.{Refusal}
+use Rattle.record.specs.Refusals.{Refusal, number_of}
 use Rattle.record.specs.declared.Reason.TheVariants.{ValueNotHeld}
-use Rattle.record.specs.Refusals.{number_of, refused}
+use Rattle.refusal.specs.Refusals.{refused}
 use Rattle.handover.specs.Lines.{head_text, fields_by, fraction_text, meant_text, text_of, line_of}
 use Rattle.handover.specs.Takes.{if_held, held_from, with_values, answered, taken_up, read_of}
 use Rattle.handover.specs.Laws.{OfKind, Within, Small, Plain, Formed, FirstUnheld, here, later, no_form, value_unheld, Takes, RoundTrip}

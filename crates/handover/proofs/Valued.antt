@@ -1,17 +1,16 @@
 -- The values of a bench as they are written.
-use Rattle.std.proofs.Common.{◌≡◌, ℕ, suc, ◌+◌, ◌<◌, ◌≤◌, Bool, true, false, ◌&&◌, List, [], ◌∷◌, ◌++◌, length, get_or, take, drop, ℤ, pos, negsuc, nat_abs, is_some, Some, None, Ok, Err, decimal, Option, Result, sym, refl, ap, ◌∙◌, ap₂, arith, w64}
+use Rattle.std.proofs.Common.{◌≡◌, ℕ, suc, ◌≤◌, ◌∷◌, ◌++◌, length, ℤ, pos, negsuc, nat_abs, Some, None, Ok, decimal, Option, sym, refl, ap, ◌∙◌, ap₂, arith, w64}
 use Rattle.std.specs.Fmt.{signed_decimal}
 use Rattle.std.proofs.lemmas.Fmt.{length-decimal-le}
-use Rattle.std.proofs.lemmas.List.{length-append, append-nil, append_assoc, take_more, at_drop_more}
+use Rattle.std.proofs.lemmas.List.{length-append}
 use Rattle.std.proofs.lemmas.Int.{to_z-of_z}
 use Rattle.std.proofs.lemmas.Bool.{cond_both}
 use Rattle.number.specs.declared.Pair.{Pair}
-use Rattle.number.specs.declared.Fault.{Fault}
 use Rattle.number.specs.Frac.{Frac}
-use Rattle.number.specs.Kind.{Holds, of_one, in_terms}
+use Rattle.number.specs.Kind.{Holds, in_terms}
 use Rattle.number.proofs.Ops.{read, b64}
 use Rattle.handover.specs.Texts.{is_one, terms_text}
-use Rattle.handover.specs.Lines.{fields_by, meant_text, all_meant}
+use Rattle.handover.specs.Lines.{meant_text}
 
 -- ---- how long a value is
 pub short_decimal : (n : ℕ) → n ≤ 2147483647 → length (decimal n) ≤ 10
@@ -34,30 +33,9 @@ module _ (means : Pair → Option Frac) (code : Frac → Option Pair) (laws : Ho
       let r = read means code laws p n d e in
       ap₂ terms_text (to_z-of_z w64 n r.fit_a ∙ sym r.num_is) (to_z-of_z w64 d r.fit_b ∙ sym r.den_is) ∙ sym (ap meant_text r.is)
 
-  pub terms_some : (p : Pair) (n d : ℤ) → Ok (n, d) ≡ in_terms means p → true ≡ is_some (means p)
-  terms_some p n d e = sym (ap is_some (read means code laws p n d e).is)
-
-  pub terms_none : (p : Pair) (f : Fault) → Err f ≡ in_terms means p → false ≡ is_some (means p)
-  terms_none p f e = by (means p) e
-    where
-      by : (o : Option Frac) → ◌≡◌ {A = Result (ℤ × ℤ) Fault} (Err f) (of_one (λ x. Ok (x.num, pos x.den)) o) → false ≡ is_some o
-      by None h = refl
-      by (Some x) h = let z : ◌≡◌ {A = ℕ} 0 1 = cc in absurd (omega arith)
-
   pub meant_short : (p : Pair) → length (meant_text (means p)) ≤ 22
   meant_short p = by (means p) refl
     where
       by : (o : Option Frac) → means p ≡ o → length (meant_text o) ≤ 22
       by None m = omega arith
       by (Some q) m = let s = laws.small q p (laws.forth p q m) in short_terms q.num q.den s.0 s.1
-
--- ---- one value more
-fields_push : {V : Type 0} (f : V → List ℕ) (vs : List V) (v : V) → fields_by f (vs ++ v ∷ []) ≡ fields_by f vs ++ (44 ∷ f v)
-fields_push f [] v = ap (λ bs. 44 ∷ bs) (append-nil (f v))
-fields_push f (u ∷ vs) v = ap (λ bs. (44 ∷ f u) ++ bs) (fields_push f vs v) ∙ sym (append_assoc (44 ∷ f u) (fields_by f vs) (44 ∷ f v))
-
-pub fields_more : {V : Type 0} (f : V → List ℕ) (vs : List V) (i : ℕ) (d : V) → i < length vs → fields_by f (take i vs) ++ (44 ∷ f (get_or vs i d)) ≡ fields_by f (take (i + 1) vs)
-fields_more f vs i d h = sym (ap (fields_by f) (take_more vs i d h) ∙ fields_push f (take i vs) (get_or vs i d))
-
-pub meant_more : (means : Pair → Option Frac) (ps : List Pair) (i : ℕ) (d : Pair) (b : Bool) → i < length ps → b ≡ is_some (means (get_or ps i d)) → all_meant means (drop i ps) ≡ (b && all_meant means (drop (i + 1) ps))
-meant_more means ps i d b h e = at_drop_more (all_meant means) ps i d h ∙ ap (λ t. t && all_meant means (drop (i + 1) ps)) (sym e)

@@ -5,10 +5,10 @@ use Rattle.number.specs.declared.Pair.{Pair}
 use Rattle.number.specs.Frac.{Frac}
 use Rattle.motion.specs.Machine as M
 use Rattle.record.specs.declared.Bench.{Bench}
-use Rattle.record.specs.declared.Refusal.{Refusal}
+use Rattle.record.specs.Refusals.{Refusal}
 use Rattle.record.specs.declared.Reason.TheVariants.{LineForm, ValueNotHeld}
 use Rattle.record.specs.Benches.{pairs_of, bench_of}
-use Rattle.record.specs.Refusals.{refused}
+use Rattle.refusal.specs.Refusals.{refused}
 use Rattle.handover.specs.Lines.{text_of, line_of}
 use Rattle.handover.specs.Takes.{taken_up}
 

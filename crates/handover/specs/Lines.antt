@@ -1,5 +1,6 @@
 -- The line of a bench: the word, four counts and the values, with commas between them, and a line feed.
-use Rattle.std.specs.Prelude.{ℕ, Bool, true, cond, ◌&&◌, List, [], ◌∷◌, ◌++◌, length, drop, pos, is_some, Some, None, codes, Option, nat_le}
+use Rattle.std.specs.Prelude.{ℕ, Bool, cond, ◌&&◌, List, [], ◌∷◌, ◌++◌, length, drop, pos, is_some, Some, None, codes, Option, nat_le}
+use Rattle.std.specs.List.{list_all, flat_map}
 use Rattle.number.specs.declared.Pair.{Pair}
 use Rattle.number.specs.Frac.{Frac}
 use Rattle.motion.specs.Machine as M
@@ -13,8 +14,7 @@ head_text line left total over = codes "bench" ++ (count_text line ++ (count_tex
 
 -- each value behind a comma, as f writes it
 abbrev pub fields_by : {V : Type 0} → (V → List ℕ) → List V → List ℕ
-fields_by f [] = []
-fields_by f (v ∷ vs) = (44 ∷ f v) ++ fields_by f vs
+fields_by f vs = flat_map (λ v. 44 ∷ f v) vs
 
 -- the line of a bench whose values f writes
 abbrev pub text_by : {V : Type 0} → (V → List ℕ) → M.Bench V → List ℕ
@@ -39,8 +39,7 @@ line_of means b = text_by (λ p. meant_text (means p)) b
 
 -- are all these numbers of the kind
 abbrev pub all_meant : (Pair → Option Frac) → List Pair → Bool
-all_meant means [] = true
-all_meant means (p ∷ ps) = is_some (means p) && all_meant means ps
+all_meant means ps = list_all (λ p. is_some (means p)) ps
 
 -- has the bench a line: not too many values, and all of the kind
 abbrev pub writable : (Pair → Option Frac) → Bench → Bool
@@ -49,7 +48,3 @@ writable means b = nat_le b.values.count 16 && all_meant means (pairs_of b.value
 -- what a buffer holds when a line was written to it: the line and what stood behind it, or what stood in it where it is too short
 abbrev pub copied : (line old : List ℕ) → List ℕ
 copied line old = cond (nat_le (length line) (length old)) (line ++ drop (length line) old) old
-
--- how many bytes were written to it; none where it is too short
-abbrev pub copied_size : (line old : List ℕ) → Option ℕ
-copied_size line old = cond (nat_le (length line) (length old)) (Some (length line)) None

@@ -1,5 +1,6 @@
 -- The bench of a line: its fields are read, the line that they have is compared with it, and the values are taken by the kind.
 use Rattle.std.specs.Prelude.{ℕ, ◌+◌, cond, ◌&&◌, List, [], ◌∷◌, length, drop, pos, Some, None, Ok, Err, Option, Result, int_le, nat_lt, slice_index_or, unsigned_abs}
+use Rattle.std.specs.Result.{result_map_both}
 use Rattle.std.specs.Str.{bytes_eq}
 use Rattle.number.specs.declared.Pair.{Pair}
 use Rattle.number.specs.declared.Fault.{Fault}
@@ -8,11 +9,11 @@ use Rattle.number.specs.Kind.{taken}
 use Rattle.kinds.specs.Fractions.{frac_of}
 use Rattle.motion.specs.Machine as M
 use Rattle.record.specs.declared.Bench.{Bench}
-use Rattle.record.specs.declared.Refusal.{Refusal}
+use Rattle.record.specs.Refusals.{Refusal}
 use Rattle.record.specs.declared.Reason.TheVariants.{LineForm, ValueNotHeld}
 use Rattle.record.specs.declared.Values.{Values}
 use Rattle.record.specs.Benches.{pairs_of, bench_of}
-use Rattle.record.specs.Refusals.{refused}
+use Rattle.refusal.specs.Refusals.{refused}
 use Rattle.handover.specs.Texts.{is_one}
 use Rattle.handover.specs.Lines.{all_meant, line_of}
 use Rattle.handover.specs.Scans.{blank, scanned}
@@ -53,8 +54,7 @@ read_of bytes = then (bench_from (scanned [] blank bytes)) (if_same bytes)
 
 -- a value before others
 abbrev pub before : Pair → Result (List Pair) Refusal → Result (List Pair) Refusal
-before p (Ok ps) = Ok (p ∷ ps)
-before p (Err e) = Err e
+before p r = result_map_both (λ ps. p ∷ ps) (λ e. e) r
 
 -- the value in this field before others, if it is held
 abbrev pub if_held : ℕ → Result Pair Fault → Result (List Pair) Refusal → Result (List Pair) Refusal
@@ -68,8 +68,7 @@ held_from means code field (p ∷ ps) = if_held field (taken means code p.a p.b)
 
 -- the bench with other values, if there are some
 abbrev pub with_values : M.Bench Pair → Result (List Pair) Refusal → Result (M.Bench Pair) Refusal
-with_values b (Ok vs) = Ok (record { line = b.line; left = b.left; total = b.total; over = b.over; values = vs })
-with_values b (Err e) = Err e
+with_values b r = result_map_both (λ vs. record { line = b.line; left = b.left; total = b.total; over = b.over; values = vs }) (λ e. e) r
 
 -- the bench with numbers of the kind for values, if the bytes had the form
 abbrev pub answered : (means : Pair → Option Frac) (code : Frac → Option Pair) → Option (M.Bench Pair) → Result (M.Bench Pair) Refusal
@@ -82,10 +81,8 @@ taken_up means code bytes = answered means code (read_of bytes)
 
 -- an answer with the bench of its record
 abbrev pub plainly : Result Bench Refusal → Result (M.Bench Pair) Refusal
-plainly (Ok b) = Ok (bench_of b)
-plainly (Err e) = Err e
+plainly r = result_map_both bench_of (λ e. e) r
 
 -- an answer with the values that count
 abbrev pub values_of : Result Values Refusal → Result (List Pair) Refusal
-values_of (Ok v) = Ok (pairs_of v)
-values_of (Err e) = Err e
+values_of r = result_map_both pairs_of (λ e. e) r

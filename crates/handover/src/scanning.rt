@@ -1,37 +1,21 @@
 // The numbers of a line, field by field, read with no question whether the line has its form:
 // what is read is written again, and compared with the line.
 ghost use Rattle.std.specs.Prelude.{◌≡◌, []};
-ghost use Rattle.handover.specs.Scans.{digit, closes, blank, grown, with_digit, with_mark, signed_by, pair_of_number, fields_of, Roomy, closed, scanned};
+ghost use Rattle.handover.specs.Scans.{blank, grown, with_digit, pair_of_number, fields_of, scanned};
 
+use arrayvec::ArrayVec;
 use number::Pair;
 
-// The number of a field, as far as it is read.
-#[derive(Clone, Copy)]
+// The number of a field, as far as it is read: what stands above the slash, and below it where there is one.
+#[derive(Clone, Copy, Default)]
 pub struct Number {
     pub minus: bool,
     pub top: u32,
-    pub slash: bool,
-    pub bottom: u32,
+    pub bottom: Option<u32>,
 }
 
-// The fields that are read, of which the first `count` count.
-#[derive(Clone, Copy)]
-pub struct Fields {
-    pub count: usize,
-    pub pairs: [Pair; 21],
-}
-
-fn is_digit(b: u8) -> bool
-    ensures { result ≡ digit b }
-{
-    b >= b'0' && b <= b'9'
-}
-
-fn is_end(b: u8) -> bool
-    ensures { result ≡ closes b }
-{
-    b == b',' || b == b'\n'
-}
+// The numbers that are read, as many as the longest line has.
+pub type Fields = ArrayVec<Number, 21>;
 
 // A value with one digit more; one that is too large already stays.
 fn grow(value: u32, d: u8) -> u32
@@ -44,117 +28,53 @@ fn grow(value: u32, d: u8) -> u32
     }
 }
 
-fn sign(minus: bool, n: u32) -> i64
-    ensures { result ≡ signed_by minus n }
-{
-    if minus { -(n as i64) } else { n as i64 }
-}
-
 impl Number {
-    fn new() -> Number
-        ensures { result ≡ blank }
-    {
-        Number {
-            minus: false,
-            top: 0,
-            slash: false,
-            bottom: 0,
-        }
-    }
-
     // One digit more, above the slash or below it.
     fn add_digit(self, d: u8) -> Number
         ensures { result ≡ with_digit self d }
     {
-        if self.slash {
-            Number {
-                bottom: grow(self.bottom, d),
-                ..self
-            }
-        } else {
-            Number {
+        match self.bottom {
+            None => Number {
                 top: grow(self.top, d),
                 ..self
-            }
-        }
-    }
-
-    // A minus or a slash; any other byte changes nothing.
-    fn add_mark(self, b: u8) -> Number
-        ensures { result ≡ with_mark self b }
-    {
-        if b == b'-' {
-            Number {
-                minus: true,
+            },
+            Some(bottom) => Number {
+                bottom: Some(grow(bottom, d)),
                 ..self
-            }
-        } else if b == b'/' {
-            Number {
-                slash: true,
-                ..self
-            }
-        } else {
-            self
+            },
         }
     }
 
     // As a pair, over 1 where there is no slash.
-    fn pair(self) -> Pair
+    pub fn pair(self) -> Pair
         ensures { result ≡ pair_of_number self }
     {
-        if self.slash {
-            Pair {
-                a: sign(self.minus, self.top),
-                b: self.bottom as i64,
-            }
-        } else {
-            Pair {
-                a: sign(self.minus, self.top),
-                b: 1,
-            }
-        }
-    }
-}
-
-impl Fields {
-    fn new() -> Fields
-        ensures none { result.count ≡ 0 }
-        ensures roomy { Roomy result }
-    {
-        Fields {
-            count: 0,
-            pairs: [Pair { a: 0, b: 1 }; 21],
-        }
-    }
-
-    // One field more, if there is room.
-    fn push(&mut self, pair: Pair)
-        requires { Roomy self.old }
-        ensures fields { fields_of self.new ≡ closed (fields_of self.old) pair }
-        ensures roomy { Roomy self.new }
-    {
-        if self.count < 21 {
-            self.pairs[self.count] = pair;
-            self.count += 1;
+        let top = self.top as i64;
+        Pair {
+            a: if self.minus { -top } else { top },
+            b: self.bottom.unwrap_or(1) as i64,
         }
     }
 }
 
 // The fields of a line.
 pub fn scan(line: &[u8]) -> Fields
-    ensures fields { fields_of result ≡ scanned [] blank line.now }
-    ensures roomy { Roomy result }
+    ensures { fields_of result ≡ scanned [] blank line.now }
 {
     let mut fields = Fields::new();
-    let mut number = Number::new();
+    let mut number = Number::default();
     for b in line {
-        if is_digit(*b) {
-            number = number.add_digit(*b - b'0');
-        } else if is_end(*b) {
-            fields.push(number.pair());
-            number = Number::new();
-        } else {
-            number = number.add_mark(*b);
+        match *b {
+            b'0'..=b'9' => number = number.add_digit(*b - b'0'),
+            b',' | b'\n' => {
+                if !fields.is_full() {
+                    fields.push(number);
+                }
+                number = Number::default();
+            }
+            b'-' => number.minus = true,
+            b'/' => number.bottom = number.bottom.or(Some(0)),
+            _ => {}
         }
     }
     fields

@@ -6,7 +6,7 @@ ghost use Rattle.handover.specs.Laws.{Takes};
 
 use crate::reading::read_line;
 use number::{Fault, Kind, Pair};
-use record::{Bench, Reason, Refusal, Values, refuse};
+use record::{Bench, Reason, Refusal, Values};
 
 // A fraction as a number of the kind.
 fn hold_one<K: Kind>(fraction: Pair) -> Result<Pair, Fault>
@@ -22,11 +22,9 @@ fn hold<K: Kind>(fractions: &[Pair]) -> Result<Values, Refusal>
     ensures few { IfOk result (λ v. v.count ≤ 16) }
 {
     let mut pairs = [Pair { a: 0, b: 1 }; 16];
-    for i in 0..fractions.len() {
-        let Ok(pair) = hold_one::<K>(fractions[i]) else {
-            return Err(refuse(Reason::ValueNotHeld, 0, i as u32 + 6));
-        };
-        pairs[i] = pair;
+    for (i, fraction) in fractions.iter().enumerate() {
+        let held = hold_one::<K>(*fraction);
+        pairs[i] = held.map_err(|_| Refusal::new(Reason::ValueNotHeld, 0, i + 6))?;
     }
     Ok(Values {
         count: fractions.len(),
@@ -39,14 +37,9 @@ fn take<K: Kind>(line: &[u8]) -> Result<Bench, Refusal>
     ensures value { plainly result ≡ taken_up K.Kind.means K.Kind.code line.now }
     ensures few { IfOk result (λ b. b.values.count ≤ 16) }
 {
-    let Some(bench) = read_line(line) else {
-        return Err(refuse(Reason::LineForm, 0, 0));
-    };
-    let count = bench.values.count;
-    match hold::<K>(&bench.values.pairs[0..count]) {
-        Ok(values) => Ok(Bench { values, ..bench }),
-        Err(refusal) => Err(refusal),
-    }
+    let bench = read_line(line).ok_or(Refusal::new(Reason::LineForm, 0, 0))?;
+    let values = hold::<K>(bench.values.as_slice())?;
+    Ok(Bench { values, ..bench })
 }
 
 // Takes a bench up from a line: exactly the lines that are written of benches within the bounds are accepted.

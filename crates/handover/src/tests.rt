@@ -5,6 +5,7 @@ use kinds::small::SmallWholes;
 use kinds::thousandths::Thousandths;
 use number::{Kind, Pair};
 use record::{Bench, Values};
+use refusal::Numbered;
 use std::test::Fail;
 
 // The largest counts, and this value so many times.
@@ -22,7 +23,7 @@ fn bench(count: usize, value: Pair) -> Bench {
 }
 
 // The number, the line and the field of a refusal; zeros where a bench is taken up.
-fn refusal<K: Kind>(line: &[u8]) -> (u8, u32, u32) {
+fn refusal<K: Kind>(line: &[u8]) -> (u8, usize, usize) {
     match take_line::<K>(line) {
         Ok(_) => (0, 0, 0),
         Err(r) => (r.reason.number(), r.line, r.field),
@@ -80,9 +81,7 @@ fn longest(rt: HostRuntime) {
 #[test]
 fn taken(rt: HostRuntime) -> Result<(), Fail> {
     let line = b"bench,9,0,23,3,-3/2,0\n";
-    let Ok(b) = take_line::<Fractions>(line) else {
-        return Err(Fail::new("refused"));
-    };
+    let b = take_line::<Fractions>(line).map_err(|_| Fail::new("refused"))?;
     assert_eq!(rt; (b.line, b.left, b.total, b.over), (9, 0, 23, 3));
     assert_eq!(rt; b.values.count, 2);
     assert_eq!(rt; b.values.pairs[0], Pair { a: -3, b: 2 });

@@ -3,15 +3,15 @@ use Rattle.std.proofs.Common.{◌≡◌, ℕ, zero, suc, ◌<◌, ◌≤◌, ◌
 use lib.ListN.{length-map, get_or-map}
 use lib.Seq.{drop-nil}
 use Rattle.number.specs.Frac.{whole}
-use Rattle.motion.specs.declared.words.Word.{Word}
-use Rattle.motion.specs.declared.words.Word.TheVariants as w
+use Rattle.script.specs.declared.words.LineWord.{LineWord}
+use Rattle.script.specs.declared.words.LineWord.TheVariants as w
 use Rattle.motion.specs.Lines.{Line, var_line, set_line, run_line, rate_line, if_line, else_line, while_line, end_line}
 use Rattle.motion.specs.NextLine.{Open, in_while, in_if, open_after, opens, settle, onward}
 use Rattle.motion.specs.LineWords.{word_of, back_to}
 use Rattle.motion.proofs.NextLine.{opens_more}
 
 -- the blocks open behind a line, by its word
-abbrev pub open_by : List Open → ℕ → Word → List Open
+abbrev pub open_by : List Open → ℕ → LineWord → List Open
 open_by st n w.If = in_if ∷ st
 open_by st n w.While = in_while n ∷ st
 open_by st n w.End = drop 1 st
@@ -36,7 +36,7 @@ or_else (Some o) r = o
 or_else None r = r
 
 -- where the walk goes at a line, by its word; `on` goes on behind it
-abbrev pub go_by : ℕ → Word → List Open → ℕ → (ℕ → ℕ) → ℕ
+abbrev pub go_by : ℕ → LineWord → List Open → ℕ → (ℕ → ℕ) → ℕ
 go_by zero w.Rate st n on = on 0
 go_by zero w.Else st n on = on 1
 go_by zero w.End st n on = or_else (back_to st) (on 0)
@@ -82,41 +82,41 @@ drop_one (suc d) [] = refl
 drop_one d (x ∷ st) = refl
 
 -- the words that open and close nothing, and those of statements
-abbrev pub Unblocked : Word → Type 0
+abbrev pub Unblocked : LineWord → Type 0
 Unblocked x = (x ≡ w.Var) ⊎ ((x ≡ w.Set) ⊎ ((x ≡ w.Run) ⊎ ((x ≡ w.Rate) ⊎ (x ≡ w.Else))))
 
-abbrev pub Passed : Word → Type 0
+abbrev pub Passed : LineWord → Type 0
 Passed x = (x ≡ w.Var) ⊎ ((x ≡ w.Set) ⊎ ((x ≡ w.Run) ⊎ (x ≡ w.Rate)))
 
-abbrev pub Stated : Word → Type 0
+abbrev pub Stated : LineWord → Type 0
 Stated x = (x ≡ w.Var) ⊎ ((x ≡ w.Set) ⊎ ((x ≡ w.Run) ⊎ ((x ≡ w.If) ⊎ (x ≡ w.While))))
 
-open_unblocked : (st : List Open) (n : ℕ) (x : Word) → Unblocked x → open_by st n x ≡ st
+open_unblocked : (st : List Open) (n : ℕ) (x : LineWord) → Unblocked x → open_by st n x ≡ st
 open_unblocked st n x (inl e) = ap (open_by st n) e
 open_unblocked st n x (inr (inl e)) = ap (open_by st n) e
 open_unblocked st n x (inr (inr (inl e))) = ap (open_by st n) e
 open_unblocked st n x (inr (inr (inr (inl e)))) = ap (open_by st n) e
 open_unblocked st n x (inr (inr (inr (inr e)))) = ap (open_by st n) e
 
-go_passed : (k : ℕ) (st : List Open) (n : ℕ) (on : ℕ → ℕ) (x : Word) → Passed x → go_by (suc k) x st n on ≡ on (suc k)
-go_passed k st n on x (inl e) = ap (λ (x : Word). go_by (suc k) x st n on) e
-go_passed k st n on x (inr (inl e)) = ap (λ (x : Word). go_by (suc k) x st n on) e
-go_passed k st n on x (inr (inr (inl e))) = ap (λ (x : Word). go_by (suc k) x st n on) e
-go_passed k st n on x (inr (inr (inr e))) = ap (λ (x : Word). go_by (suc k) x st n on) e
+go_passed : (k : ℕ) (st : List Open) (n : ℕ) (on : ℕ → ℕ) (x : LineWord) → Passed x → go_by (suc k) x st n on ≡ on (suc k)
+go_passed k st n on x (inl e) = ap (λ (x : LineWord). go_by (suc k) x st n on) e
+go_passed k st n on x (inr (inl e)) = ap (λ (x : LineWord). go_by (suc k) x st n on) e
+go_passed k st n on x (inr (inr (inl e))) = ap (λ (x : LineWord). go_by (suc k) x st n on) e
+go_passed k st n on x (inr (inr (inr e))) = ap (λ (x : LineWord). go_by (suc k) x st n on) e
 
-go_stated : (st : List Open) (n : ℕ) (on : ℕ → ℕ) (x : Word) → Stated x → go_by 0 x st n on ≡ n
-go_stated st n on x (inl e) = ap (λ (x : Word). go_by 0 x st n on) e
-go_stated st n on x (inr (inl e)) = ap (λ (x : Word). go_by 0 x st n on) e
-go_stated st n on x (inr (inr (inl e))) = ap (λ (x : Word). go_by 0 x st n on) e
-go_stated st n on x (inr (inr (inr (inl e)))) = ap (λ (x : Word). go_by 0 x st n on) e
-go_stated st n on x (inr (inr (inr (inr e)))) = ap (λ (x : Word). go_by 0 x st n on) e
+go_stated : (st : List Open) (n : ℕ) (on : ℕ → ℕ) (x : LineWord) → Stated x → go_by 0 x st n on ≡ n
+go_stated st n on x (inl e) = ap (λ (x : LineWord). go_by 0 x st n on) e
+go_stated st n on x (inr (inl e)) = ap (λ (x : LineWord). go_by 0 x st n on) e
+go_stated st n on x (inr (inr (inl e))) = ap (λ (x : LineWord). go_by 0 x st n on) e
+go_stated st n on x (inr (inr (inr (inl e)))) = ap (λ (x : LineWord). go_by 0 x st n on) e
+go_stated st n on x (inr (inr (inr (inr e)))) = ap (λ (x : LineWord). go_by 0 x st n on) e
 
 go_else : (k : ℕ) (st : List Open) (n : ℕ) (on : ℕ → ℕ) → (k ≡ 0 → ⊥) → go_by (suc k) w.Else st n on ≡ on (suc k)
 go_else zero st n on h = absurd (h refl)
 go_else (suc k) st n on h = refl
 
 -- the line at index i, and the one behind it, j
-module _ (words : List Word) (all : List Line) (e : words ≡ map word_of all) (i j : ℕ) (s : j ≡ suc i) (h : i < length words) where
+module _ (words : List LineWord) (all : List Line) (e : words ≡ map word_of all) (i j : ℕ) (s : j ≡ suc i) (h : i < length words) where
   abbrev here : Line
   here = get_or all i (var_line (whole (pos 0)))
 
@@ -142,13 +142,13 @@ module _ (words : List Word) (all : List Line) (e : words ≡ map word_of all) (
       ∙ go_same k st (suc i) here (drop (suc i) all)
       ∙ ap (λ (o : List Open). go_by k (word_of here) st (suc i) (λ m. settle m o (suc (suc i)) (drop (suc i) all))) (sym opens_next)
       ∙ ap (λ (n : ℕ). go_by k (word_of here) st (suc i) (λ m. settle m (opens [] 1 j all) (suc n) (drop n all))) (sym s)
-      ∙ ap (λ (x : Word). go_by k x st (suc i) (λ m. onward m all j)) word_read
+      ∙ ap (λ (x : LineWord). go_by k x st (suc i) (λ m. onward m all j)) word_read
 
-  pub turn_by : (k : ℕ) (x : Word) → get_or words i w.Var ≡ x → onward k all i ≡ go_by k x st (suc i) (λ m. onward m all j)
-  turn_by k x q = turn k ∙ ap (λ (x : Word). go_by k x st (suc i) (λ m. onward m all j)) q
+  pub turn_by : (k : ℕ) (x : LineWord) → get_or words i w.Var ≡ x → onward k all i ≡ go_by k x st (suc i) (λ m. onward m all j)
+  turn_by k x q = turn k ∙ ap (λ (x : LineWord). go_by k x st (suc i) (λ m. onward m all j)) q
 
   -- the walk forwards, inside of k blocks that are to be left
-  pub walk_opened : (x : Word) → get_or words i w.Var ≡ x → (x ≡ w.If) ⊎ (x ≡ w.While) → (k k' : ℕ) → k' ≡ suc k → onward (suc k') all j ≡ onward (suc k) all i
+  pub walk_opened : (x : LineWord) → get_or words i w.Var ≡ x → (x ≡ w.If) ⊎ (x ≡ w.While) → (k k' : ℕ) → k' ≡ suc k → onward (suc k') all j ≡ onward (suc k) all i
   walk_opened x q (inl y) k k' r = rw r (sym (turn_by (suc k) w.If (q ∙ y)))
   walk_opened x q (inr y) k k' r = rw r (sym (turn_by (suc k) w.While (q ∙ y)))
 
@@ -181,7 +181,7 @@ module _ (words : List Word) (all : List Line) (e : words ≡ map word_of all) (
   next_stated p = sym (turn 0 ∙ go_stated st (suc i) (λ m. onward m all j) (get_or words i w.Var) p)
 
   -- the scan backwards: the blocks open before line j, of which d are closed behind it, from those open before its line
-  back_by : (x : Word) → get_or words i w.Var ≡ x → (d : ℕ) → back_to (drop d (open_by st j x)) ≡ back_to (drop d (opens [] 1 j all))
+  back_by : (x : LineWord) → get_or words i w.Var ≡ x → (d : ℕ) → back_to (drop d (open_by st j x)) ≡ back_to (drop d (opens [] 1 j all))
   back_by x q d = ap (λ (o : List Open). back_to (drop d o)) (ap (λ (n : ℕ). open_by st n x) s ∙ ap (open_by st (suc i)) (sym q) ∙ sym opens_by)
 
   pub back_end : get_or words i w.Var ≡ w.End → (d d' : ℕ) → d' ≡ suc d → back_to (drop d' st) ≡ back_to (drop d (opens [] 1 j all))
@@ -208,5 +208,5 @@ pub back_start : (all : List Line) (j d : ℕ) → j ≡ 0 → None ≡ back_to 
 back_start all j d q = rw (q, drop-nil d)
 
 -- past the last line the walk is at its end
-pub past_end : (words : List Word) (all : List Line) (k i : ℕ) → words ≡ map word_of all → length words ≤ i → onward k all i ≡ suc i
+pub past_end : (words : List LineWord) (all : List Line) (k i : ℕ) → words ≡ map word_of all → length words ≤ i → onward k all i ≡ suc i
 past_end words all k i e h = let l : length all ≤ i = omega (arith, length-map all word_of, ap length e) in rw (drop_of_length-le all {i = i} l)

@@ -1,12 +1,12 @@
 -- The lines by their first words, for the code that goes from line to line.
 use Rattle.std.specs.Prelude.{ℕ, suc, List, [], ◌∷◌, Some, None, Option}
-use Rattle.motion.specs.declared.words.Word.{Word}
-use Rattle.motion.specs.declared.words.Word.TheVariants as w
+use Rattle.script.specs.declared.words.LineWord.{LineWord}
+use Rattle.script.specs.declared.words.LineWord.TheVariants as w
 use Rattle.motion.specs.Lines.{Line, var_line, set_line, run_line, rate_line, if_line, else_line, while_line, end_line}
 use Rattle.motion.specs.NextLine.{Open, in_while, in_if}
 
 -- the first word of a line
-abbrev pub word_of : Line → Word
+abbrev pub word_of : Line → LineWord
 word_of (var_line x) = w.Var
 word_of (set_line x e) = w.Set
 word_of (run_line e) = w.Run

@@ -1,2 +1,4 @@
 pub mod Located
+pub mod Flaws
 pub mod Stacks
+pub mod Expressions

@@ -1,77 +1,72 @@
 // The results that wait while the items of a line are worked out.
-ghost use Rattle.std.specs.Prelude.{◌≡◌, ◌+◌, ◌<◌, ◌≤◌, ◌∷◌, OnOk};
-ghost use Rattle.motion.specs.Items.{one_truth};
-ghost use Rattle.postfix.specs.Located.{located};
-ghost use Rattle.postfix.specs.Stacks.{value_of, waiting, left_with, one_number};
+ghost use Rattle.std.specs.Prelude.{◌≡◌, ◌+◌, ◌<◌, ◌≤◌, [], ◌∷◌, OnOk, OnSome, MatchOption};
 
-use number::Pair;
-use record::{Reason, Refusal, refuse};
-
-#[derive(Clone, Copy)]
-pub enum Slot {
-    Number(Pair),
-    Truth(bool),
-}
+use crate::flaw::Flaw;
+use number::{Answer, Pair};
 
 // The first `depth` of the slots wait, the last on top. A line has at most 18 fields, so 18 slots are enough.
 #[derive(Clone, Copy)]
 pub struct Stack {
-    pub depth: usize,
-    pub slots: [Slot; 18],
+    depth: usize,
+    slots: [Answer; 18],
+    ghost small: { depth ≤ 18 },
 }
 
 impl Stack {
-    pub const EMPTY: Stack = Stack {
-        depth: 0,
-        slots: [Slot::Truth(false); 18],
-    };
+    ghost use Rattle.motion.specs.Items.{one_truth};
+    ghost use Rattle.postfix.specs.Stacks.{value_of, waiting, got_with, one_number};
 
-    pub fn push(&mut self, slot: Slot)
+    // Nothing waits.
+    pub fn new() -> Stack
+        ensures waits { waiting result ≡ [] }
+        ensures deep { result.depth ≡ 0 }
+    {
+        Stack {
+            depth: 0,
+            slots: [Answer::Truth(false); 18],
+        }
+    }
+
+    pub fn push(&mut self, answer: Answer)
         requires { self.old.depth < 18 }
-        ensures waits { waiting self.new ≡ value_of slot ∷ waiting self.old }
+        ensures waits { waiting self.new ≡ value_of answer ∷ waiting self.old }
         ensures deep { self.new.depth ≡ self.old.depth + 1 }
     {
-        self.slots[self.depth] = slot;
+        self.slots[self.depth] = answer;
         self.depth += 1;
     }
 
+    // Takes the last result off, if one waits.
+    fn pop(&mut self) -> Option<Answer>
+        ensures waits { MatchOption result (waiting self.old ≡ []) (λ a. waiting self.old ≡ value_of a ∷ waiting self.new) }
+        ensures deep { OnSome result (self.new.depth + 1 ≡ self.old.depth) }
+    {
+        if self.depth == 0 {
+            return None;
+        }
+        self.depth -= 1;
+        Some(self.slots[self.depth])
+    }
+
     // Takes a number off.
-    pub fn number(&mut self, line: u32) -> Result<Pair, Refusal>
-        requires { self.old.depth ≤ 18 }
-        ensures waits { left_with result self.new ≡ located line (one_number (waiting self.old)) }
+    pub fn number(&mut self) -> Result<Pair, Flaw>
+        ensures waits { got_with result self.new ≡ one_number (waiting self.old) }
         ensures deep { OnOk result (self.new.depth + 1 ≡ self.old.depth) }
     {
-        let depth = self.depth;
-        if depth < 1 {
-            return Err(refuse(Reason::ItemsBroken, line, 0));
-        }
-        let last = self.slots[depth - 1];
-        match last {
-            Slot::Truth(_) => Err(refuse(Reason::ItemsBroken, line, 0)),
-            Slot::Number(p) => {
-                self.depth = depth - 1;
-                Ok(p)
-            }
+        match self.pop() {
+            Some(Answer::Number(p)) => Ok(p),
+            _ => Err(Flaw::Broken),
         }
     }
 
     // Takes a truth off.
-    pub fn truth(&mut self, line: u32) -> Result<bool, Refusal>
-        requires { self.old.depth ≤ 18 }
-        ensures waits { left_with result self.new ≡ located line (one_truth (waiting self.old)) }
+    pub fn truth(&mut self) -> Result<bool, Flaw>
+        ensures waits { got_with result self.new ≡ one_truth (waiting self.old) }
         ensures deep { OnOk result (self.new.depth + 1 ≡ self.old.depth) }
     {
-        let depth = self.depth;
-        if depth < 1 {
-            return Err(refuse(Reason::ItemsBroken, line, 0));
-        }
-        let last = self.slots[depth - 1];
-        match last {
-            Slot::Number(_) => Err(refuse(Reason::ItemsBroken, line, 0)),
-            Slot::Truth(b) => {
-                self.depth = depth - 1;
-                Ok(b)
-            }
+        match self.pop() {
+            Some(Answer::Truth(b)) => Ok(b),
+            _ => Err(Flaw::Broken),
         }
     }
 }

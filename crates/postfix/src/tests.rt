@@ -1,8 +1,10 @@
 // Items worked out in fractions.
 use super::*;
+use entries::Resolved;
 use kinds::fractions::Fractions;
 use number::Pair;
 use record::Refusal;
+use refusal::Numbered;
 use script::{Entry, Number, Operator, Token, Word};
 use std::test::Fail;
 
@@ -26,7 +28,7 @@ fn operator(operator: Operator) -> Entry {
 }
 
 // A pair by its parts, or a refusal by its number, line and field.
-fn told(r: Result<Pair, Refusal>) -> Result<(i64, i64), (u8, u32, u32)> {
+fn told(r: Result<Pair, Refusal>) -> Result<(i64, i64), (u8, usize, usize)> {
     match r {
         Ok(p) => Ok((p.a, p.b)),
         Err(e) => Err((e.reason.number(), e.line, e.field)),
@@ -37,31 +39,41 @@ fn told(r: Result<Pair, Refusal>) -> Result<(i64, i64), (u8, u32, u32)> {
 #[test]
 fn numbers(rt: HostRuntime) {
     let env = [Pair { a: 8, b: 1 }];
-    let places = [0, 16, 16, 16, 16];
+    let places = [Some(0), None, None, None, None];
     let name = entry(Token::Name);
     let less = operator(Operator::Sub);
     let over = operator(Operator::Div);
     let halved = [name, whole(3), less, whole(2), over];
-    assert_eq!(rt;
-        told(number_of::<Fractions>(&env, &halved, &places, 4, 3)),
-        Ok((5, 2))
-    );
+    let half = Expression {
+        values: &env,
+        items: Resolved::new(&halved, &places),
+        line: 4,
+        field: 3,
+    };
+    assert_eq!(rt; told(half.number::<Fractions>()), Ok((5, 2)));
     let by_zero = [name, whole(3), less, whole(0), over];
-    assert_eq!(rt;
-        told(number_of::<Fractions>(&env, &by_zero, &places, 4, 3)),
-        Err((21, 4, 7))
-    );
+    let none = Expression {
+        items: Resolved::new(&by_zero, &places),
+        ..half
+    };
+    assert_eq!(rt; told(none.number::<Fractions>()), Err((21, 4, 7)));
 }
 
 // 1 below 2, and not 2 below 1; at no place of the variables.
 #[test]
 fn truths(rt: HostRuntime) -> Result<(), Fail> {
-    let places = [16; 8];
+    let places = [None; 8];
     let lt = operator(Operator::Lt);
     let not = operator(Operator::Not);
     let and = operator(Operator::And);
     let both = [whole(1), whole(2), lt, whole(2), whole(1), lt, not, and];
-    match truth_of::<Fractions>(&[], &both, &places, 1, 2) {
+    let expression = Expression {
+        values: &[],
+        items: Resolved::new(&both, &places),
+        line: 1,
+        field: 2,
+    };
+    match expression.truth::<Fractions>() {
         Ok(b) => {
             assert!(rt; b);
             Ok(())

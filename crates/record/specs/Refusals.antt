@@ -2,7 +2,7 @@
 use Rattle.std.specs.Prelude.{cond, ℕ, eqb}
 use Rattle.record.specs.declared.Reason.{Reason}
 use Rattle.record.specs.declared.Reason.TheVariants.{LineForm, ValueNotHeld, NotFitting, TooManyTicks, StepsUsedUp, ZeroDivisor, NoDuration, NotHeld, NotHeldWhereCut, NameNotDeclared, BufferTooShort, ItemsBroken, NoStatement}
-use Rattle.record.specs.declared.Refusal.{Refusal}
+use Rattle.refusal.specs.declared.Refusal as r
 
 -- the number by which a reason is known
 abbrev pub number_of : Reason → ℕ
@@ -26,6 +26,6 @@ reason_of n =
     cond (eqb n 20) StepsUsedUp (cond (eqb n 21) ZeroDivisor (cond (eqb n 22) NoDuration (cond (eqb n 23) NotHeld (cond (eqb n 24) NotHeldWhereCut (
     cond (eqb n 18) NotFitting (cond (eqb n 19) TooManyTicks (cond (eqb n 14) ItemsBroken NoStatement)))))))
 
--- a refusal for this reason, at this line and field
-abbrev pub refused : Reason → ℕ → ℕ → Refusal
-refused reason line field = record { reason = reason; line = line; field = field }
+-- a refusal by one of these reasons
+abbrev pub Refusal : Type 0
+Refusal = r.Refusal Reason

@@ -1,20 +1,35 @@
 // A bench as a plain record, and why a call on it is refused.
 #![tactic(auto)]
 
-ghost use Rattle.std.specs.Prelude.{◌≡◌};
-ghost use Rattle.record.specs.Refusals.{number_of, refused};
+ghost use Rattle.std.specs.Prelude.{◌≡◌, ◌≤◌, length};
+ghost use Rattle.record.specs.Benches.{pairs_of};
+ghost use Rattle.refusal.specs.Refusals.{refused};
 
 use number::Pair;
+use refusal::Numbered;
+
+// The largest count of ticks.
+pub const MOST_TICKS: u32 = 2147483647;
 
 // The values of the variables, in var order: the first `count` of the pairs.
-#[derive(Clone, Copy)]
+#[derive(Clone, Copy, PartialEq, Eq, Debug)]
 pub struct Values {
     pub count: usize,
     pub pairs: [Pair; 16],
 }
 
+impl Values {
+    // The values that count: as many as it says, and at most 16.
+    pub fn as_slice(&self) -> &[Pair]
+        ensures values { result.now ≡ pairs_of self.now }
+        ensures len { self.now.count ≤ 16 → length result.now ≡ self.now.count }
+    {
+        self.pairs.get(..self.count).unwrap_or(&self.pairs)
+    }
+}
+
 // A bench: its line and the ticks left in its stretch, the total of accepted ticks, the ticks over, and the values.
-#[derive(Clone, Copy)]
+#[derive(Clone, Copy, PartialEq, Eq, Debug)]
 pub struct Bench {
     pub line: u32,
     pub left: u32,
@@ -23,62 +38,41 @@ pub struct Bench {
     pub values: Values,
 }
 
-#[derive(Clone, Copy)]
+// The reasons by their numbers.
+#[derive(Clone, Copy, PartialEq, Eq, Debug)]
 pub enum Reason {
-    LineForm,
-    ValueNotHeld,
-    NotFitting,
-    TooManyTicks,
-    StepsUsedUp,
-    ZeroDivisor,
-    NoDuration,
-    NotHeld,
-    NotHeldWhereCut,
-    NameNotDeclared,
-    BufferTooShort,
+    LineForm = 16,
+    ValueNotHeld = 17,
+    NotFitting = 18,
+    TooManyTicks = 19,
+    StepsUsedUp = 20,
+    ZeroDivisor = 21,
+    NoDuration = 22,
+    NotHeld = 23,
+    NotHeldWhereCut = 24,
+    NameNotDeclared = 25,
+    BufferTooShort = 26,
     // no checked script meets these two: items that break their rules, and a line that is no statement
-    ItemsBroken,
-    NoStatement,
+    ItemsBroken = 14,
+    NoStatement = 0,
 }
 
-// The line and the field are counted from 1, and 0 where there is none.
-#[derive(Clone, Copy)]
-pub struct Refusal {
-    pub reason: Reason,
-    pub line: u32,
-    pub field: u32,
-}
+// A refusal for one of these reasons.
+pub type Refusal = refusal::Refusal<Reason>;
 
-impl Reason {
-    // The number by which a reason is known.
-    pub fn number(self) -> u8
-        ensures { result ≡ number_of self }
-    {
-        match self {
-            Reason::LineForm => 16,
-            Reason::ValueNotHeld => 17,
-            Reason::NotFitting => 18,
-            Reason::TooManyTicks => 19,
-            Reason::StepsUsedUp => 20,
-            Reason::ZeroDivisor => 21,
-            Reason::NoDuration => 22,
-            Reason::NotHeld => 23,
-            Reason::NotHeldWhereCut => 24,
-            Reason::NameNotDeclared => 25,
-            Reason::BufferTooShort => 26,
-            Reason::ItemsBroken => 14,
-            Reason::NoStatement => 0,
-        }
+impl Numbered for Reason {
+    ghost use Rattle.record.specs.Refusals.{number_of as numbers};
+
+    ghost number_of = { numbers };
+
+    fn number(self) -> u8 {
+        self as u8
     }
 }
 
-// A refusal for this reason, at this line and field.
+// A refusal for this reason, at this line and field of a script.
 pub fn refuse(reason: Reason, line: u32, field: u32) -> Refusal
     ensures { result ≡ refused reason line «field» }
 {
-    Refusal {
-        reason,
-        line,
-        field,
-    }
+    Refusal::new(reason, line as usize, field as usize)
 }

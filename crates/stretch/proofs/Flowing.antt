@@ -1,6 +1,10 @@
 -- The loops of a flow, a turn at a time. Assumes nothing.
-use Rattle.std.proofs.Common.{◌≡◌, ℕ, suc, ◌+◌, ◌-◌, ◌*◌, ◌/◌, ◌<◌, ◌≤◌, min, Bool, List, [], ◌∷◌, ◌++◌, length, get_or, take, drop, set, pos, Some, None, Option, refl, ap, ◌∙◌, arith}
-use Rattle.std.proofs.lemmas.List.{at_drop_more, at_drop_all, length-drop, take_more_set, append_assoc, append-nil}
+use Rattle.std.proofs.Common.{◌≡◌, ℕ, suc, ◌+◌, ◌-◌, ◌<◌, Bool, List, [], ◌∷◌, ◌++◌, length, get_or, take, set, pos, Some, None, Option, Bor, refl, sym, ap, subst, ◌∙◌, arith}
+use Rattle.std.proofs.lemmas.List.{take_more_set, append_assoc}
+use Rattle.std.specs.Iterator.Adapters.{zip_first, zip_second, enumerate_source, enumerate_count, enumerate_steps}
+use Rattle.std.specs.Slice.Iter.{iter_rest, chunks_exact_rest, chunks_exact_size, chunks_exact_steps}
+use Rattle.std.proofs.iter.Yields.{fronts}
+use Rattle.std.proofs.lemmas.Iterator.{zips}
 use Rattle.script.specs.declared.reading.Entry.{Entry}
 use Rattle.number.specs.Frac.{whole}
 use Rattle.number.specs.declared.Pair.{Pair}
@@ -9,7 +13,11 @@ use Rattle.motion.specs.Lines.{Rate}
 use Rattle.motion.specs.Flow.{then, of_part, sum, next, climb}
 use Rattle.motion.specs.Flow as F
 use Rattle.entries.specs.Decoding.{coefficient_of, factor_of, part_of, parts_of}
-use Rattle.stretch.specs.Flows.{with_part, rate_value, raised_by}
+use Rattle.stretch.specs.Flows.{with_part, rate_value}
+
+-- d plus r scaled by n over k
+abbrev pub raised_by : Numbers Pair → ℕ → ℕ → Pair → Pair → Option Pair
+raised_by N n k d r = then (N.scale r n k) (λ s. N.add d s)
 
 last_step : {V W : Type 0} (a : Option V) (s : V → Option V) (k : V → Option W) → then a (λ x. then (s x) k) ≡ then (then a s) k
 last_step (Some x) s k = refl
@@ -20,30 +28,42 @@ steps None b m s k = refl
 steps (Some c) None m s k = refl
 steps (Some c) (Some v) m s k = last_step (m c v) s k
 
+-- one turn over two lists at once, counted
+pub counts_more : (s t : _) (m : Option (ℕ × (Bor Pair × Bor Pair))) (p : ℕ × (Bor Pair × Bor Pair)) → m ≡ Some p → enumerate_steps (zips (fronts {A = Pair}) (fronts {A = Pair})) s m t → enumerate_steps (zips (fronts {A = Pair}) (fronts {A = Pair})) s (Some p) t
+counts_more s t m p e h = subst (λ o. enumerate_steps (zips (fronts {A = Pair}) (fronts {A = Pair})) s o t) e h
+
+-- one turn over the pairs of two lists at once
+pub pairs_more : {A B : Type 0} (s t : _) (r : Option (Bor (List A) × Bor (List B))) (p : Bor (List A) × Bor (List B)) → r ≡ Some p → zips (chunks_exact_steps {A = A}) (chunks_exact_steps {A = B}) s r t
+    → (chunks_exact_steps (zip_first s) (Some p.0) (zip_first t)) × (chunks_exact_steps (zip_second s) (Some p.1) (zip_second t))
+pairs_more {A = A} {B = B} s t r p e h = subst (λ o. zips (chunks_exact_steps {A = A}) (chunks_exact_steps {A = B}) s o t) e h
+
 module _ (N : Numbers Pair) (first : Bool) (d : List Pair) (acc : Pair) where
-  -- one part more
-  pub sum_more : (es : List Entry) (xs : List ℕ) (k : ℕ) (a b : Entry) (z : ℕ) (r : Option Pair) → k < min (length es) (length xs) / 2
-      → r ≡ with_part N first d acc (part_of (get_or es (2 * k) a).token (get_or es (2 * k + 1) b).token (get_or xs (2 * k + 1) z))
-      → sum N first d acc (parts_of (drop (2 * k) es) (drop (2 * k) xs)) ≡ then r (λ q. sum N first d q (parts_of (drop (2 * (k + 1)) es) (drop (2 * (k + 1)) xs)))
-  sum_more es xs k a b z r h e =
-      let i : ℕ = 2 * k in
-      let j : i + 1 + 1 ≡ 2 * (k + 1) = omega arith in
-      at_drop_more (λ ys. sum N first d acc (parts_of ys (drop i xs))) es i a (omega arith)
-      ∙ at_drop_more (λ ys. sum N first d acc (parts_of (get_or es i a ∷ ys) (drop i xs))) es (i + 1) b (omega arith)
-      ∙ at_drop_more (λ ys. sum N first d acc (parts_of (get_or es i a ∷ get_or es (i + 1) b ∷ drop (i + 1 + 1) es) ys)) xs i z (omega arith)
-      ∙ at_drop_more (λ ys. sum N first d acc (parts_of (get_or es i a ∷ get_or es (i + 1) b ∷ drop (i + 1 + 1) es) (get_or xs i z ∷ ys))) xs (i + 1) z (omega arith)
-      ∙ steps (N.literal (coefficient_of (get_or es i a).token)) (of_part N first d (factor_of (get_or es (i + 1) b).token (get_or xs (i + 1) z))) N.mul (N.add acc) (λ q. sum N first d q (parts_of (drop (i + 1 + 1) es) (drop (i + 1 + 1) xs)))
-      ∙ rw (j, e)
+  -- one part more, of two entries in front of the others
+  pub sum_more : (es : List Entry) (xs : List (Option ℕ)) (fields : List Entry) (places : List (Option ℕ)) (a b : Entry) (z : Option ℕ) (r : Option Pair) → length fields ≡ 2 → length places ≡ 2
+      → r ≡ with_part N first d acc (part_of (get_or fields 0 a).token (get_or fields 1 b).token (get_or places 1 z))
+      → sum N first d acc (parts_of (fields ++ es) (places ++ xs)) ≡ then r (λ q. sum N first d q (parts_of es xs))
+  sum_more es xs [] places a b z r h k e = absurd (omega (arith, h))
+  sum_more es xs (p ∷ []) places a b z r h k e = absurd (omega (arith, h))
+  sum_more es xs (p ∷ q ∷ s ∷ fields) places a b z r h k e = absurd (omega (arith, h))
+  sum_more es xs (p ∷ q ∷ []) [] a b z r h k e = absurd (omega (arith, k))
+  sum_more es xs (p ∷ q ∷ []) (y ∷ []) a b z r h k e = absurd (omega (arith, k))
+  sum_more es xs (p ∷ q ∷ []) (y ∷ x ∷ v ∷ places) a b z r h k e = absurd (omega (arith, k))
+  sum_more es xs (p ∷ q ∷ []) (y ∷ x ∷ []) a b z r h k e =
+      steps (N.literal (coefficient_of p.token)) (of_part N first d (factor_of q.token x)) N.mul (N.add acc) (λ t. sum N first d t (parts_of es xs))
+      ∙ ap (λ o. then o (λ t. sum N first d t (parts_of es xs))) (sym e)
 
-  short : (es : List Entry) (xs : List ℕ) → min (length es) (length xs) < 2 → sum N first d acc (parts_of es xs) ≡ Some acc
-  short [] xs h = refl
-  short (e ∷ []) xs h = refl
-  short (e ∷ f ∷ es) [] h = refl
-  short (e ∷ f ∷ es) (x ∷ []) h = refl
-  short (e ∷ f ∷ es) (x ∷ y ∷ xs) h = absurd (omega arith)
-
-  pub sum_all : (es : List Entry) (xs : List ℕ) (k : ℕ) → min (length es) (length xs) / 2 ≤ k → sum N first d acc (parts_of (drop (2 * k) es) (drop (2 * k) xs)) ≡ Some acc
-  sum_all es xs k h = short (drop (2 * k) es) (drop (2 * k) xs) (simp length-drop (omega arith))
+  -- the same, where they come from the entries and from the places
+  pub sum_turn : (s t : _) (o : Option (Bor (List Entry) × Bor (List (Option ℕ)))) (p : Bor (List Entry) × Bor (List (Option ℕ))) (a b : Entry) (z : Option ℕ) (r : Option Pair)
+      → chunks_exact_size (zip_first s) ≡ 2 → chunks_exact_size (zip_second s) ≡ 2 → o ≡ Some p → zips (chunks_exact_steps {A = Entry}) (chunks_exact_steps {A = Option ℕ}) s o t
+      → r ≡ with_part N first d acc (part_of (get_or p.0.now 0 a).token (get_or p.0.now 1 b).token (get_or p.1.now 1 z))
+      → sum N first d acc (parts_of (chunks_exact_rest (zip_first s)) (chunks_exact_rest (zip_second s))) ≡ then r (λ q. sum N first d q (parts_of (chunks_exact_rest (zip_first t)) (chunks_exact_rest (zip_second t))))
+  sum_turn s t o p a b z r m n f h e =
+      let k = pairs_more s t o p f h in
+      let es : List Entry = chunks_exact_rest (zip_first t) in
+      let xs : List (Option ℕ) = chunks_exact_rest (zip_second t) in
+      ap (λ ys. sum N first d acc (parts_of ys (chunks_exact_rest (zip_second s)))) k.0.1.0
+      ∙ ap (λ ys. sum N first d acc (parts_of (p.0.now ++ es) ys)) k.1.1.0
+      ∙ sum_more es xs p.0.now p.1.now a b z r (k.0.1.1 ∙ m) (k.1.1.1 ∙ n) e
 
 -- what is done before, put in front
 in_front : (a : Option Pair) (b : Option (List Pair)) (front : List Pair) (more : Pair → List Pair) → ((q : Pair) → more q ≡ front ++ q ∷ []) → then (then a (λ q. then b (λ qs. Some (q ∷ qs)))) (λ qs. Some (front ++ qs)) ≡ then a (λ q. then b (λ qs. Some (more q ++ qs)))
@@ -66,21 +86,36 @@ module _ (N : Numbers Pair) where
       ∙ in_front (rate_value N first rs d x) (next N first rs d (suc x) (n - (x + 1))) (take x out) (λ q. take (x + 1) (set out x q)) (λ q. take_more_set out x q k)
       ∙ rw (j, e)
 
-  pub next_all : (first : Bool) (rs : List Rate) (d out : List Pair) (x n : ℕ) → x ≡ n → then (next N first rs d x (n - x)) (λ qs. Some (take x out ++ qs)) ≡ Some (take n out)
-  next_all first rs d out x n h =
-      let f : n - x ≡ 0 = omega arith in
-      ap (λ m. then (next N first rs d x m) (λ qs. Some (take x out ++ qs))) f ∙ rw (append-nil (take x out), h)
+  pub climb_more : (n k : ℕ) (d r out : List Pair) (value rate : Pair) (i : ℕ) (o : Option Pair) → i < length out → o ≡ raised_by N n k value rate
+      → then (climb N n k (value ∷ d) (rate ∷ r)) (λ qs. Some (take i out ++ qs)) ≡ then o (λ q. then (climb N n k d r) (λ qs. Some (take (i + 1) (set out i q) ++ qs)))
+  climb_more n k d r out value rate i o h e =
+      ap (λ t. then t (λ qs. Some (take i out ++ qs))) (with_first (N.scale rate n k) (λ s. N.add value s) (climb N n k d r))
+      ∙ in_front (raised_by N n k value rate) (climb N n k d r) (take i out) (λ q. take (i + 1) (set out i q)) (λ q. take_more_set out i q h)
+      ∙ ap (λ t. then t (λ q. then (climb N n k d r) (λ qs. Some (take (i + 1) (set out i q) ++ qs)))) (sym e)
 
-  pub climb_more : (n k : ℕ) (d r out : List Pair) (i : ℕ) (y z : Pair) (o : Option Pair) → i < length d → length d ≡ length r → i < length out → o ≡ raised_by N n k (get_or d i y) (get_or r i z)
-      → then (climb N n k (drop i d) (drop i r)) (λ qs. Some (take i out ++ qs)) ≡ then o (λ q. then (climb N n k (drop (i + 1) d) (drop (i + 1) r)) (λ qs. Some (take (i + 1) (set out i q) ++ qs)))
-  climb_more n k d r out i y z o h l j e =
-      at_drop_more (λ ys. then (climb N n k ys (drop i r)) (λ qs. Some (take i out ++ qs))) d i y h
-      ∙ at_drop_more (λ ys. then (climb N n k (get_or d i y ∷ drop (i + 1) d) ys) (λ qs. Some (take i out ++ qs))) r i z (omega arith)
-      ∙ ap (λ o. then o (λ qs. Some (take i out ++ qs))) (with_first (N.scale (get_or r i z) n k) (λ s. N.add (get_or d i y) s) (climb N n k (drop (i + 1) d) (drop (i + 1) r)))
-      ∙ in_front (raised_by N n k (get_or d i y) (get_or r i z)) (climb N n k (drop (i + 1) d) (drop (i + 1) r)) (take i out) (λ q. take (i + 1) (set out i q)) (λ q. take_more_set out i q j)
-      ∙ rw e
+  -- the same, where they come from the values and from the rates
+  pub climb_turn : (n k : ℕ) (s t : _) (m : Option (ℕ × (Bor Pair × Bor Pair))) (p : ℕ × (Bor Pair × Bor Pair)) (out : List Pair) (o : Option Pair) → m ≡ Some p → enumerate_steps (zips (fronts {A = Pair}) (fronts {A = Pair})) s m t → enumerate_count s < length out → o ≡ raised_by N n k p.1.0.now p.1.1.now
+      → then (climb N n k (iter_rest (zip_first (enumerate_source s))) (iter_rest (zip_second (enumerate_source s)))) (λ qs. Some (take (enumerate_count s) out ++ qs))
+      ≡ then o (λ q. then (climb N n k (iter_rest (zip_first (enumerate_source t))) (iter_rest (zip_second (enumerate_source t)))) (λ qs. Some (take (enumerate_count t) (set out p.0 q) ++ qs)))
+  climb_turn n k s t m p out o e h l f =
+      let a = counts_more s t m p e h in
+      let ds : List Pair = iter_rest (zip_first (enumerate_source t)) in
+      let rs : List Pair = iter_rest (zip_second (enumerate_source t)) in
+      ap (λ ys. then (climb N n k ys (iter_rest (zip_second (enumerate_source s)))) (λ qs. Some (take (enumerate_count s) out ++ qs))) a.0.0
+      ∙ ap (λ ys. then (climb N n k (p.1.0.now ∷ ds) ys) (λ qs. Some (take (enumerate_count s) out ++ qs))) a.0.1
+      ∙ climb_more n k ds rs out p.1.0.now p.1.1.now (enumerate_count s) o l f
+      ∙ ap (λ i. then o (λ q. then (climb N n k ds rs) (λ qs. Some (take (enumerate_count s + 1) (set out i q) ++ qs)))) (sym a.1)
+      ∙ ap (λ i. then o (λ q. then (climb N n k ds rs) (λ qs. Some (take i (set out p.0 q) ++ qs)))) (sym a.2)
 
-  pub climb_all : (n k : ℕ) (d r out : List Pair) (i : ℕ) → i ≡ length d → then (climb N n k (drop i d) (drop i r)) (λ qs. Some (take i out ++ qs)) ≡ Some (take (length d) out)
-  climb_all n k d r out i h =
-      at_drop_all (λ ys. then (climb N n k ys (drop i r)) (λ qs. Some (take i out ++ qs))) d i (omega arith)
-      ∙ rw (append-nil (take i out), h)
+  -- at first nothing is in front
+  start : (out : List Pair) (o : Option (List Pair)) → o ≡ then o (λ qs. Some (take 0 out ++ qs))
+  start out (Some qs) = refl
+  start out None = refl
+
+  pub climb_start : (n k : ℕ) (s : _) (d r out : List Pair) → enumerate_count s ≡ 0 → iter_rest (zip_first (enumerate_source s)) ≡ d → iter_rest (zip_second (enumerate_source s)) ≡ r
+      → climb N n k d r ≡ then (climb N n k (iter_rest (zip_first (enumerate_source s))) (iter_rest (zip_second (enumerate_source s)))) (λ qs. Some (take (enumerate_count s) out ++ qs))
+  climb_start n k s d r out a b e =
+      start out (climb N n k d r)
+      ∙ ap (λ i. then (climb N n k d r) (λ qs. Some (take i out ++ qs))) (sym a)
+      ∙ ap (λ ys. then (climb N n k ys r) (λ qs. Some (take (enumerate_count s) out ++ qs))) (sym b)
+      ∙ ap (λ ys. then (climb N n k (iter_rest (zip_first (enumerate_source s))) ys) (λ qs. Some (take (enumerate_count s) out ++ qs))) (sym e)

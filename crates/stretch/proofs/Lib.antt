@@ -1,2 +1,2 @@
 pub mod Flowing
-pub mod RateLines
+pub mod Kept

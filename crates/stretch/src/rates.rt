@@ -1,41 +1,32 @@
 // The rate lines of a stretch.
-ghost use Rattle.std.specs.Prelude.{◌≡◌};
+ghost use Rattle.std.specs.Prelude.{◌≡◌, ◌<◌};
 ghost use Rattle.motion.specs.Flow.{parts_of as parts_for};
-ghost use Rattle.stretch.specs.Flows.{is_rate, rates_in, found_parts};
+ghost use Rattle.stretch.specs.Flows.{rates_in, found_parts};
 
-use entries::Row;
-use script::{Entry, LineWord};
+use entries::{Resolved, Row};
+use script::LineWord;
 
-// The rows behind a run line, over the entries of a script and their places; the rate lines that stand first are meant.
+// The rows behind a run line, over the entries of a script; the rate lines that stand first are meant.
 #[derive(Clone, Copy)]
 pub struct Rates<'a> {
     pub rows: &'a [Row],
-    pub table: &'a [Entry],
-    pub places: &'a [u8],
+    pub entries: Resolved<'a>,
 }
 
-fn is_rate(word: LineWord) -> bool
-    ensures { result ≡ is_rate word }
-{
-    match word {
-        LineWord::Rate => true,
-        _ => false,
-    }
-}
-
-// The rate line of a variable, if it has one.
-pub fn rate_row(rates: &Rates, x: u8) -> Option<Row>
-    ensures { found_parts rates.now.table.now rates.now.places.now result ≡ parts_for x (rates_in rates.now) }
-{
-    let rows = rates.rows;
-    for i in 0..rows.len() {
-        let row = rows[i];
-        if !is_rate(row.word) {
-            return None;
+impl<'a> Rates<'a> {
+    // The entries of the parts of a variable's rate line, if it has one.
+    pub fn parts(&self, x: u8) -> Option<Resolved<'a>>
+        requires { x < 16 }
+        ensures { found_parts result ≡ parts_for x (rates_in self.now) }
+    {
+        for row in self.rows {
+            if row.word != LineWord::Rate {
+                break;
+            }
+            if row.name == Some(x) {
+                return Some(self.entries.between(row.from, row.to));
+            }
         }
-        if row.name == x {
-            return Some(row);
-        }
+        None
     }
-    None
 }

@@ -1,7 +1,7 @@
 // A stretch in fractions.
 use super::*;
 use kinds::fractions::Fractions;
-use script::{LineWord, Number, Token, Word};
+use script::{Entry, LineWord, Number, Token, Word};
 use std::test::Fail;
 
 fn entry(token: Token) -> Entry {
@@ -18,7 +18,7 @@ fn number(minus: bool, top: u32, bottom: u32) -> Entry {
 fn rate(name: u8, from: usize, to: usize) -> Row {
     Row {
         word: LineWord::Rate,
-        name,
+        name: Some(name),
         from,
         to,
     }
@@ -34,11 +34,12 @@ fn falling(rt: HostRuntime) -> Result<(), Fail> {
         number(true, 1, 2),
         entry(Token::Word(Word::One)),
     ];
-    let places = [16, 1, 16, 16];
+    let variables = [None, Some(1), None, None];
     let mut pairs = [Pair { a: 0, b: 1 }; 16];
     pairs[1] = Pair { a: 3, b: 1 };
     let start = Values { count: 2, pairs };
-    let Some(end) = flow::<Fractions>(&rows, &table, &places, &start, 3) else {
+    let entries = Resolved::new(&table, &variables);
+    let Some(end) = flow::<Fractions>(&rows, entries, &start, 3) else {
         assert!(rt; false);
         return Ok(());
     };

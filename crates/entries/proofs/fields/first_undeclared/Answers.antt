@@ -1,21 +1,13 @@
-use Rattle.std.proofs.Common.{sym, ◌∙◌}
-use Rattle.std.proofs.lemmas.List.{at_drop_all}
-use Rattle.entries.specs.Fields.{undeclared}
-use Rattle.entries.proofs.Turns.{on_true, on_false, undeclared_turn}
+use Rattle.std.proofs.Common.{◌≡◌, rules, ap, ◌∙◌, find, option_map}
+use Rattle.std.proofs.lemmas.Iterator.{YieldsList-from_slice}
+use Rattle.std.proofs.lemmas.Iterator.Search.{find_from_yields_List}
+use borrow.Author.Tests.{tests}
+use Rattle.entries.specs.Fields.{unknown}
+use Rattle.entries.proofs.Turns.{found_field}
 use Rattle.entries.proofs.fields.first_undeclared.Goals as goal
 
-pub loop-e-preserved : goal.loop-e-preserved
-loop-e-preserved c =
-    c.loop-e.invariant
-    ∙ undeclared_turn c.args.text.now c.args.names.now c.args.line.now c.loop-e.e-index _ _ c.loop-e-test.true c.is_unknown.ensures
-    ∙ on_false _ _ _ c.if-is_unknown.false
-
-pub returns-then-is_unknown : goal.returns-then-is_unknown
-returns-then-is_unknown c = sym (
-    c.loop-e.invariant
-    ∙ undeclared_turn c.args.text.now c.args.names.now c.args.line.now c.loop-e.e-index _ _ c.loop-e-test.true c.is_unknown.ensures
-    ∙ on_true _ _ _ c.if-is_unknown.true
-    )
-
 pub returns : goal.returns
-returns c = sym (c.loop-e.invariant ∙ at_drop_all (undeclared c.args.text.now c.args.names.now) _ _ c.loop-e-test.false)
+returns c =
+    let h : option_map (λ x. x.now) c.find.result ≡ find (unknown c.args.text.now c.args.names.now) c.args.line.now =
+    find_from_yields_List (unknown c.args.text.now c.args.names.now) _ _ c.find.result c.find.ensures.ran (YieldsList-from_slice c.args.line.now cc) (λ x b q k. search (rules, tests)) in
+    (search rules) ∙ ap (option_map (λ e. e.place.field)) h ∙ found_field (unknown c.args.text.now c.args.names.now) c.args.line.now

@@ -1,21 +1,13 @@
-use Rattle.std.proofs.Common.{sym, ◌∙◌}
-use Rattle.std.proofs.lemmas.List.{at_drop_all}
-use Rattle.entries.specs.Fields.{unheld}
-use Rattle.entries.proofs.Turns.{on_true, on_false, unheld_turn}
+use Rattle.std.proofs.Common.{◌≡◌, rules, ap, ◌∙◌, find, option_map}
+use Rattle.std.proofs.lemmas.Iterator.{YieldsList-from_slice}
+use Rattle.std.proofs.lemmas.Iterator.Search.{find_from_yields_List}
+use borrow.Author.Tests.{tests}
+use Rattle.entries.specs.Fields.{not_held}
+use Rattle.entries.proofs.Turns.{found_field}
 use Rattle.entries.proofs.fields.first_unheld.Goals as goal
 
-pub loop-e-preserved : goal.loop-e-preserved
-loop-e-preserved g c =
-    c.loop-e.invariant
-    ∙ unheld_turn g.K.Kind.means g.K.Kind.code c.args.line.now c.loop-e.e-index _ _ c.loop-e-test.true c.is_unheld.ensures
-    ∙ on_false _ _ _ c.if-is_unheld.false
-
-pub returns-then-is_unheld : goal.returns-then-is_unheld
-returns-then-is_unheld g c = sym (
-    c.loop-e.invariant
-    ∙ unheld_turn g.K.Kind.means g.K.Kind.code c.args.line.now c.loop-e.e-index _ _ c.loop-e-test.true c.is_unheld.ensures
-    ∙ on_true _ _ _ c.if-is_unheld.true
-    )
-
 pub returns : goal.returns
-returns g c = sym (c.loop-e.invariant ∙ at_drop_all (unheld g.K.Kind.means g.K.Kind.code) _ _ c.loop-e-test.false)
+returns g c =
+    let h : option_map (λ x. x.now) c.find.result ≡ find (λ e. not_held g.K.Kind.means g.K.Kind.code e.token) c.args.line.now =
+    find_from_yields_List (λ e. not_held g.K.Kind.means g.K.Kind.code e.token) _ _ c.find.result c.find.ensures.ran (YieldsList-from_slice c.args.line.now cc) (λ x b q k. search (rules, tests)) in
+    (search rules) ∙ ap (option_map (λ e. e.place.field)) h ∙ found_field (λ e. not_held g.K.Kind.means g.K.Kind.code e.token) c.args.line.now

@@ -1,16 +1,14 @@
--- The head, the values and the line feed.
-use Rattle.std.proofs.Common.{◌≡◌, ◌-◌, take, ap, arith}
-use Rattle.handover.specs.Lines.{fields_by, meant_text}
-use Rattle.handover.proofs.Adding.{added_as, added_then, spelled_then}
-use Rattle.handover.proofs.Lawful.{writable_from}
+-- One value more, behind a text that stays short.
+use Rattle.std.proofs.Common.{arith}
+use lib.Utf8.{encode}
+use Rattle.handover.proofs.Lawful.{text_short}
 use Rattle.handover.proofs.writing.line_text.Goals as goal
 
-pub returns : goal.returns
-returns g c =
-    let v = c.args.bench.now.values in
-    let whole : v.count - 0 ≡ v.count = omega arith in
-    let fields = added_as _ _ _ _ (ap (λ n. fields_by (λ p. meant_text (g.K.Kind.means p)) (take n v.pairs)) whole) (c.push_values.ensures.added c.if-not-push_values.false) in (
-      writable_from g.K.Kind.means c.args.bench.now c.if-count-gt16.false c.if-not-push_values.ensures.meant,
-      spelled_then _ _ _ _ c.head-text.ensures.spelled (added_then _ _ _ _ _ fields c.push.ensures),
-      omega (arith, c.push.ensures.size, c.push_values.ensures.room),
-    )
+pub push_value-requires : goal.push_value-requires
+push_value-requires g c =
+    omega (arith, text_short g.K.Kind.means g.K.Kind.code g.met.K.Kind.sound c.head-text.result.bytes c.loop-value.text.bytes c.in_ok-values.values.now c.loop-value.value-index (omega arith) c.loop-value.invariant.0, c.in_ok-values.ensures.lookup)
+
+pub push-requires : goal.push-requires
+unfolding encode
+push-requires g c =
+    (omega arith, omega (arith, text_short g.K.Kind.means g.K.Kind.code g.met.K.Kind.sound c.head-text.result.bytes c.loop-value.text.bytes c.in_ok-values.values.now c.loop-value.value-index (omega arith) c.loop-value.invariant.0, c.in_ok-values.ensures.lookup))

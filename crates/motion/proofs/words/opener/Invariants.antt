@@ -6,6 +6,3 @@ use Rattle.motion.proofs.words.opener.Given as goal
 
 abbrev pub invariant-loop-j : goal.invariant-loop-j
 invariant-loop-j l = (l.j + l.closed ≤ l.i) × ((all : List Line) → l.words ≡ map word_of all → back_to (drop l.closed (opens [] 1 l.j all)) ≡ back_to (opens [] 1 l.i all))
-
-abbrev pub decreases-loop-j : goal.decreases-loop-j
-decreases-loop-j l = l.j

@@ -1,13 +1,11 @@
-use Rattle.std.proofs.Common.{cond, pos, sym, ap, ◌∙◌}
-use Rattle.number.specs.Frac.{whole, norm}
-use Rattle.motion.specs.Pairs.{kept_of}
-use Rattle.postfix.proofs.Written.{kept_held}
+use Rattle.std.proofs.Common.{pos, to_z, of_z, w64, ap, ◌∙◌}
+use Rattle.std.specs.Result.{result_ok}
+use Rattle.number.specs.Frac.{whole}
+use Rattle.number.specs.Kind.{taken}
+use Rattle.stretch.proofs.Kept.{ok_unit}
 use Rattle.stretch.proofs.sums.unit.Goals as goal
 
-pub returns-then-first : goal.returns-then-first
+pub returns : goal.returns
 unfolding whole
-returns-then-first g c = c.kept.ensures ∙ ap kept_of c.take.ensures ∙ kept_held (g.K.Kind.code (norm (pos 1) 1)) ∙ ap (λ b. g.K.Kind.code (whole (pos (cond b 1 0)))) (sym c.if-first.true)
-
-pub returns-else-first : goal.returns-else-first
-unfolding whole
-returns-else-first g c = c.kept-else-first.ensures ∙ ap kept_of c.take-else-first.ensures ∙ kept_held (g.K.Kind.code (norm (pos 0) 1)) ∙ ap (λ b. g.K.Kind.code (whole (pos (cond b 1 0)))) (sym c.if-first.false)
+returns g c =
+    c.ok.ensures.value ∙ ap result_ok c.take.ensures ∙ ap (λ z. result_ok (taken g.K.Kind.means g.K.Kind.code (to_z w64 (of_z w64 z)) (pos 1))) c.from.ensures ∙ ok_unit g.K.Kind.means g.K.Kind.code c.args.one
