@@ -4,8 +4,8 @@ use Rattle.script.specs.Reading.{entries}
 use Rattle.kinds.specs.Fractions.{frac_of, pair_of}
 use Rattle.kinds.specs.Thousandths.{thousand_of, count_of}
 use Rattle.checker.specs.declared.refusals.Reason.TheVariants.{OtherTable, VarOutOfPlace, NameNotDeclared, NumberNotHeld, RateOutOfPlace, Blocks, Items, Chains}
-use Rattle.checker.specs.declared.refusals.Refusal.{Refusal}
-use Rattle.checker.specs.Refusals.{refused}
+use Rattle.checker.specs.Refusals.{Refusal}
+use Rattle.refusal.specs.Refusals.{refused}
 use Rattle.checker.specs.Verdict.{Accepted, Refused}
 
 -- a text with its own entries is accepted in fractions

@@ -6,7 +6,8 @@ ghost use Rattle.check_listing.specs.Answers.{answer_to};
 ghost use Rattle.check_cases.specs.Answers.{with_room, answers};
 ghost use Rattle.check_cases.specs.Examples.{Examples};
 
-use check_listing::answers::{Answer, answer_to};
+use check_listing::answers::{Size, answer_to};
+use checker::Refused;
 use kinds::fractions::Fractions;
 use kinds::small::SmallWholes;
 use kinds::thousandths::Thousandths;
@@ -14,7 +15,7 @@ use number::Kind;
 use script::Entry;
 
 // The answer for a kind, with room for 256 fields.
-pub fn answer_in<K: Kind>(text: &[u8]) -> Answer
+pub fn answer_in<K: Kind>(text: &[u8]) -> Result<Size, Refused>
     ensures { result ≡ with_room K.Kind.means K.Kind.code text.now }
 {
     let mut table = [Entry::BLANK; 256];
@@ -22,7 +23,13 @@ pub fn answer_in<K: Kind>(text: &[u8]) -> Answer
 }
 
 // The answers for fractions, thousandths and small whole numbers.
-pub fn answers_to(text: &[u8]) -> (Answer, Answer, Answer)
+pub fn answers_to(
+    text: &[u8],
+) -> (
+    Result<Size, Refused>,
+    Result<Size, Refused>,
+    Result<Size, Refused>,
+)
     ensures { result ≡ answers text.now }
 {
     (
@@ -33,11 +40,9 @@ pub fn answers_to(text: &[u8]) -> (Answer, Answer, Answer)
 }
 
 // What the rules say of some scripts: two that are accepted, and at least one for each condition.
-pub fn examples() -> u8
+pub fn examples()
     ensures { Examples }
-{
-    0
-}
+{}
 
 #[cfg(test)]
 mod tests;

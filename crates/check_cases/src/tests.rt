@@ -4,8 +4,36 @@ ghost use Rattle.std.specs.Prelude.{◌<◌};
 use super::*;
 use check_listing::answers::answer_for;
 use checker::check;
+use refusal::Numbered;
 use script::{Number, Place, Token, read};
 use std::process::Abort;
+
+// An answer by its numbers: of variables and lines; or the number, line and field of the refusal by the check, or by
+// the reader.
+#[derive(Clone, Copy, PartialEq, Eq, Debug)]
+enum Answer {
+    Accepted(usize, usize),
+    Refused(u8, usize, usize),
+    Unread(u8, usize, usize),
+}
+
+impl From<Result<Size, Refused>> for Answer {
+    fn from(answer: Result<Size, Refused>) -> Answer {
+        match answer {
+            Ok(Size { variables, lines }) => Answer::Accepted(variables, lines),
+            Err(Refused::Unchecked(refusal)) => Answer::Refused(
+                refusal.reason.number(),
+                refusal.line,
+                refusal.field,
+            ),
+            Err(Refused::Unread(refusal)) => Answer::Unread(
+                refusal.reason.number(),
+                refusal.line,
+                refusal.field,
+            ),
+        }
+    }
+}
 
 // A text, and the answer for fractions, thousandths and small whole numbers.
 #[derive(Clone, Copy)]
@@ -40,10 +68,10 @@ fn refuses(text: &'static [u8], number: u8, line: usize, field: usize) -> Case {
 // Every case is answered as it says.
 fn all(rt: &impl Abort, cases: &[Case]) {
     for case in cases {
-        assert_eq!(rt;
-            answers_to(case.text),
-            (case.fractions, case.thousandths, case.small)
-        );
+        let (fractions, thousandths, small) = answers_to(case.text);
+        assert_eq!(rt; Answer::from(fractions), case.fractions);
+        assert_eq!(rt; Answer::from(thousandths), case.thousandths);
+        assert_eq!(rt; Answer::from(small), case.small);
     }
 }
 
@@ -822,9 +850,9 @@ fn changed(text: &[u8], at: usize, entry: Entry) -> Answer {
             if at < 16 {
                 table[at] = entry;
             }
-            answer_for::<Fractions>(draft, &table)
+            answer_for::<Fractions>(draft, &table).into()
         }
-        Err(refusal) => Answer::Unread(refusal.reason.number(), refusal.line, refusal.field),
+        Err(refusal) => Err(Refused::Unread(refusal)).into(),
     }
 }
 
@@ -879,7 +907,7 @@ fn with_table_of(text: &[u8], other: &[u8], n: usize) -> Answer {
     let Ok(_other) = read(other, &mut others) else {
         return Answer::Unread(0, 0, 0);
     };
-    answer_for::<Fractions>(draft, &others[..if n < 16 { n } else { 16 }])
+    answer_for::<Fractions>(draft, &others[..n.min(16)]).into()
 }
 
 #[test]
@@ -914,7 +942,7 @@ fn again(text: &[u8]) -> (Answer, Answer) {
         Ok(script) => (Answer::Accepted(script.variables(), script.lines()), OTHER),
         Err((draft, refusal)) => {
             let first = Answer::Refused(refusal.reason.number(), refusal.line, refusal.field);
-            (first, answer_for::<Fractions>(draft, &table))
+            (first, answer_for::<Fractions>(draft, &table).into())
         }
     }
 }
@@ -933,10 +961,8 @@ fn a_draft_comes_back(rt: HostRuntime) {
 
 // Writes the piece over and over.
 fn repeat(out: &mut [u8], piece: &[u8]) {
-    for i in 0..out.len() {
-        if piece.len() > 0 {
-            out[i] = piece[i % piece.len()];
-        }
+    for (slot, b) in out.iter_mut().zip(piece.iter().cycle()) {
+        *slot = *b;
     }
 }
 
@@ -947,7 +973,7 @@ fn repeated<const N: usize>(piece: &[u8]) -> Answer
     let mut text = [0u8; N];
     repeat(&mut text, piece);
     let mut table = [Entry::BLANK; 4608];
-    answer_to::<Fractions>(&text, &mut table)
+    answer_to::<Fractions>(&text, &mut table).into()
 }
 
 #[test]

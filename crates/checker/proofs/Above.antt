@@ -3,7 +3,7 @@ use Rattle.std.proofs.Common.{◌≡◌, ℕ, suc, ◌+◌, ◌-◌, ◌<◌, �
 use Rattle.std.specs.Str.{bytes_eq}
 use Rattle.std.proofs.lemmas.List.{get_or-set_same, get_or-set_other, take_more_set, length-take-le, get_or-replicate}
 use Rattle.std.proofs.lemmas.Bool.{or_parts, and_parts, not-false, cases_eq, lt-leb, leb-false, eq-eqb, ne_eqb}
-use borrow.Author.Tests.{clash}
+use Rattle.std.proofs.Math.Bool.{not-not}
 use Rattle.std.proofs.lemmas.Slice.Eq.{bytes_eq-Decides}
 use Rattle.script.specs.declared.words.LineWord.{LineWord}
 use Rattle.script.specs.declared.words.LineWord.TheVariants as w
@@ -13,7 +13,7 @@ use Rattle.script.specs.Places.{bytes_at}
 use Rattle.checker.specs.declared.refusals.Reason.TheVariants.{VarOutOfPlace, RateOutOfPlace, Blocks}
 use Rattle.checker.specs.declared.lines.Block.{Block}
 use Rattle.checker.specs.declared.lines.Past.{Past}
-use Rattle.checker.specs.Refusals.{refused}
+use Rattle.refusal.specs.Refusals.{refused}
 use Rattle.entries.specs.Fields.{second_place, is_name, is_none, find, undeclared}
 use Rattle.checker.specs.Conditions.{declared_names, variable, var_misplaced, with_name, with_other, after_var, first_unknown, in_stretch, rate_misplaced, rate_on, after_rate, block, with_blocks, innermost, after_block, at_first}
 use Rattle.checker.specs.Chains.{is_empty, is_run, is_rate}
@@ -27,23 +27,16 @@ first_bad ok field (x ∷ xs) = cond (ok x) (first_bad ok field xs) (Some (field
 
 -- names -------------------------------------------------------------------------
 
-not_not : (b : Bool) → not (not b) ≡ b
-not_not true = refl
-not_not false = refl
-
 found : (o : Option ℕ) (b : Bool) → is_none o ≡ not b → b ≡ true → (x : ℕ) × (o ≡ Some x)
 found (Some x) b e h = (x, refl)
-found None b e h = let z : ◌≡◌ {A = ℕ} 0 1 = cc in absurd (omega arith)
-
-no_clash : {A : Type 0} (o : Option ℕ) (x : ℕ) → o ≡ None → o ≡ Some x → A
-no_clash o x e f = let z : ◌≡◌ {A = ℕ} 0 1 = cc in absurd (omega arith)
+found None b e h = cc
 
 some_same : (x y : ℕ) → ◌≡◌ {A = Option ℕ} (Some x) (Some y) → x ≡ y
 some_same x y e = cc
 
 module _ (text : List ℕ) where
   find_from : (ps : List Place) (i : ℕ) (a : List ℕ) (x : ℕ) → find text ps i a ≡ Some x → (i ≤ x) × (x < i + length ps)
-  find_from [] i a x e = no_clash None x refl e
+  find_from [] i a x e = cc
   find_from (p ∷ ps) i a x e = by (bytes_eq (bytes_at text p) a) e (find_from ps (i + 1) a x)
     where
       by : (b : Bool) → cond b (Some i) (find text ps (i + 1) a) ≡ Some x → (find text ps (i + 1) a ≡ Some x → (i + 1 ≤ x) × (x < i + 1 + length ps)) → (i ≤ x) × (x < i + suc (length ps))
@@ -52,7 +45,7 @@ module _ (text : List ℕ) where
 
   -- names that are found at one place are the same
   find_same : (ps : List Place) (i : ℕ) (a b : List ℕ) (x : ℕ) → find text ps i a ≡ Some x → find text ps i b ≡ Some x → a ≡ b
-  find_same [] i a b x e f = no_clash None x refl e
+  find_same [] i a b x e f = cc
   find_same (p ∷ ps) i a b x e f = by (bytes_eq (bytes_at text p) a) (bytes_eq (bytes_at text p) b) refl refl e f (find_same ps (i + 1) a b x)
     where
       late : (c : List ℕ) → find text ps (i + 1) c ≡ Some x → ◌≡◌ {A = Option ℕ} (Some i) (Some x) → ⊥
@@ -110,7 +103,7 @@ Knows text us p = Known text (other_above us) (vars_above us) (declared_above te
 pub knows_first : (text : List ℕ) → Knows text [] at_first
 knows_first text = record {
   names = record { other = refl; count = refl; few = omega arith; room = refl; known = λ name. refl };
-  stretch = record { above = refl; marks = refl; marked = λ e. let z : ◌≡◌ {A = ℕ} 0 1 = cc in absurd (omega arith) };
+  stretch = record { above = refl; marks = refl; marked = λ e. cc };
   blocks = record { deep = omega arith; slots = refl; opens = opened_zero 0 at_first.blocks refl };
 }
 
@@ -143,7 +136,7 @@ other_names text o c d others declared names k = record { other = refl; count = 
 module _ (text : List ℕ) (declared : ℕ) (names : List Place) (r : List ℕ → Bool) where
   -- no stretch
   no_stretch : (rated : List Bool) → length rated ≡ 16 → StretchKnown text false r declared names false rated
-  no_stretch rated m = record { above = refl; marks = m; marked = λ e. let z : ◌≡◌ {A = ℕ} 0 1 = cc in absurd (omega arith) }
+  no_stretch rated m = record { above = refl; marks = m; marked = λ e. cc }
 
   -- a stretch begins
   new_stretch : declared ≤ 16 → length names ≡ 16 → ((name : List ℕ) → r name ≡ false) → StretchKnown text true r declared names true (replicate 16 false)
@@ -172,7 +165,7 @@ module _ (text : List ℕ) (declared : ℕ) (names : List Place) (r : List ℕ �
       by m y g false e (inl q) =
           let n : name ≡ m = find_same text (take declared names) 0 name m x f (g ∙ ap Some q) in
           let z : true ≡ false = sym ((bytes_eq-Decides name m).1 n) ∙ e in
-          absurd (clash (sym z))
+          cc
       by m y g false e (inr q) = get_or-set_other rated x y true false q ∙ k.marked t m y g
 
 -- the conditions of a line by what is known, and what is known behind it ---------------
@@ -186,20 +179,14 @@ module _ (text : List ℕ) (us : List (List Entry)) (p : Past) (k : Knows text u
       ap (λ (v : Bool). v || (leb 16 p.declared || not (is_none spot))) k.names.other
       ∙ ap (λ (c : ℕ). other_above us || (leb 16 c || not (is_none spot))) k.names.count
       ∙ ap (λ (v : Bool). other_above us || (leb 16 (vars_above us) || not v)) (k.names.known (name_on text line))
-      ∙ ap (λ (v : Bool). other_above us || (leb 16 (vars_above us) || v)) (not_not (declared_above text us (name_on text line)))
+      ∙ ap (λ (v : Bool). other_above us || (leb 16 (vars_above us) || v)) (not-not (declared_above text us (name_on text line)))
 
   abbrev pub named : LineWord → Past
   named v = cond (is_var v) (with_name p (second_place line)) (with_other p)
 
   pub by_var : (v : LineWord) → after_var text p v n (second_place line) ≡ cond (var_wrong text us v line) (Err (refused VarOutOfPlace n 2)) (Ok (named v))
   by_var w.Var = ap (λ (b : Bool). cond b (Err (refused VarOutOfPlace n 2)) (Ok (with_name p (second_place line)))) misplaced
-  by_var w.Set = refl
-  by_var w.Run = refl
-  by_var w.Rate = refl
-  by_var w.If = refl
-  by_var w.Else = refl
-  by_var w.While = refl
-  by_var w.End = refl
+  by_var v = refl
 
   -- the field of the first use of a name that is not declared
   abbrev pub first_use : List (ℕ × Place) → Option ℕ
@@ -223,12 +210,8 @@ module _ (text : List ℕ) (us : List (List Entry)) (p : Past) (k : Knows text u
   pub by_uses : (v : LineWord) → first_unknown text (named v) v line ≡ first_use (uses v line)
   by_uses w.Var = refl
   by_uses w.Set = by_second
-  by_uses w.Run = by_names line
   by_uses w.Rate = by_second
-  by_uses w.If = by_names line
-  by_uses w.Else = by_names line
-  by_uses w.While = by_names line
-  by_uses w.End = by_names line
+  by_uses v = by_names line
 
   -- the variable that a rate line names
   rate_named : all_declared text us (uses w.Rate line) ≡ true → (x : ℕ) × (spot ≡ Some x) × (x < 16)
@@ -257,11 +240,7 @@ module _ (text : List ℕ) (us : List (List Entry)) (p : Past) (k : Knows text u
   rated w.Rate None = p
   rated w.Run o = in_stretch (with_other p) true (replicate 16 false)
   rated w.Var o = in_stretch (with_name p (second_place line)) false p.rated
-  rated w.Set o = in_stretch (with_other p) false p.rated
-  rated w.If o = in_stretch (with_other p) false p.rated
-  rated w.Else o = in_stretch (with_other p) false p.rated
-  rated w.While o = in_stretch (with_other p) false p.rated
-  rated w.End o = in_stretch (with_other p) false p.rated
+  rated v o = in_stretch (with_other p) false p.rated
 
   pub by_rate : (v : LineWord) → all_declared text us (uses v line) ≡ true → after_rate (named v) v n (variable text (named v) (second_place line)) ≡ cond (rate_wrong text us v line) (Err (refused RateOutOfPlace n 2)) (Ok (rated v spot))
   by_rate w.Rate h =
@@ -269,13 +248,7 @@ module _ (text : List ℕ) (us : List (List Entry)) (p : Past) (k : Knows text u
       ap (rate_on (with_other p) n) r.1
       ∙ ap (λ (b : Bool). cond b (Err (refused RateOutOfPlace n 2)) (Ok (rated w.Rate (Some r.0)))) (rate_misplaced_is r.0 r.1 r.2)
       ∙ ap (λ (o : Option ℕ). cond (not (stretch_above us) || rated_above text us (name_on text line)) (Err (refused RateOutOfPlace n 2)) (Ok (rated w.Rate o))) (sym r.1)
-  by_rate w.Var h = refl
-  by_rate w.Set h = refl
-  by_rate w.Run h = refl
-  by_rate w.If h = refl
-  by_rate w.Else h = refl
-  by_rate w.While h = refl
-  by_rate w.End h = refl
+  by_rate v h = refl
 
   depth_is : p.depth ≡ length (open_above us)
   depth_is = sym (opened_count p.depth p.blocks) ∙ ap length k.blocks.opens
@@ -297,24 +270,18 @@ module _ (text : List ℕ) (us : List (List Entry)) (p : Past) (k : Knows text u
 
   -- what is known with the block of a line
   abbrev pub nested : LineWord → Past
-  nested w.Var = rated w.Var spot
-  nested w.Set = rated w.Set spot
-  nested w.Run = rated w.Run spot
-  nested w.Rate = rated w.Rate spot
   nested w.If = with_blocks (rated w.If spot) (p.depth + 1) (set p.blocks p.depth (block n true))
   nested w.Else = with_blocks (rated w.Else spot) p.depth (set p.blocks (p.depth - 1) (block (innermost p).line false))
   nested w.While = with_blocks (rated w.While spot) (p.depth + 1) (set p.blocks p.depth (block n false))
   nested w.End = with_blocks (rated w.End spot) (p.depth - 1) p.blocks
+  nested v = rated v spot
 
   pub by_block : (v : LineWord) → after_block (rated v spot) v n ≡ cond (block_wrong v (open_above us)) (Err (refused Blocks n 0)) (Ok (nested v))
-  by_block w.Var = refl
-  by_block w.Set = refl
-  by_block w.Run = refl
-  by_block w.Rate = refl
   by_block w.If = ap (λ (d : ℕ). cond (leb 8 d) (Err (refused Blocks n 0)) (Ok (nested w.If))) depth_is
   by_block w.Else = ap (λ (b : Bool). cond b (Err (refused Blocks n 0)) (Ok (nested w.Else))) (else_served (open_above us) refl)
   by_block w.While = ap (λ (d : ℕ). cond (leb 8 d) (Err (refused Blocks n 0)) (Ok (nested w.While))) depth_is
   by_block w.End = ap (λ (b : Bool). cond b (Err (refused Blocks n 0)) (Ok (nested w.End))) (none_open (open_above us) refl)
+  by_block v = refl
 
   -- the blocks behind the line
   one_more : (b : Bool) → leb 8 (length (open_above us)) ≡ false → BlocksKnown (block n b ∷ open_above us) (p.depth + 1) (set p.blocks p.depth (block n b))
@@ -328,7 +295,7 @@ module _ (text : List ℕ) (us : List (List Entry)) (p : Past) (k : Knows text u
       }
 
   its_else : (os : List Block) → open_above us ≡ os → not (awaits_else os) ≡ false → BlocksKnown (elsed os) p.depth (set p.blocks (p.depth - 1) (block (innermost p).line false))
-  its_else [] e h = let z : ◌≡◌ {A = ℕ} 0 1 = cc in absurd (omega arith)
+  its_else [] e h = cc
   its_else (b ∷ os) e h =
       let o = opened_some p.depth p.blocks b os (k.blocks.opens ∙ e) in
       let q = o.1 in
@@ -345,7 +312,7 @@ module _ (text : List ℕ) (us : List (List Entry)) (p : Past) (k : Knows text u
       }
 
   one_less : (os : List Block) → open_above us ≡ os → is_empty os ≡ false → BlocksKnown (drop 1 os) (p.depth - 1) p.blocks
-  one_less [] e h = let z : ◌≡◌ {A = ℕ} 0 1 = cc in absurd (omega arith)
+  one_less [] e h = cc
   one_less (b ∷ os) e h =
       let o = opened_some p.depth p.blocks b os (k.blocks.opens ∙ e) in
       let q = o.1 in

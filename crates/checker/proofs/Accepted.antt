@@ -30,7 +30,7 @@ module _ (means : Pair → Option Frac) (code : Frac → Option Pair) where
   all_held (e ∷ l) h = by (not_held means code e.token) refl h (all_held l)
     where
       by : (b : Bool) → not_held means code e.token ≡ b → cond b (Some e.place.field) (unheld means code l) ≡ None → (unheld means code l ≡ None → AllByRecursion (λ e. not_held means code e.token ≡ false) l) → (not_held means code e.token ≡ false) × AllByRecursion (λ e. not_held means code e.token ≡ false) l
-      by true p q go = let z : ◌≡◌ {A = ℕ} 0 1 = cc in absurd (omega arith)
+      by true p q go = cc
       by false p q go = (p, go q)
 
   joined : (P : Entry → Type 0) (l m : List Entry) → AllByRecursion P l → AllByRecursion P m → AllByRecursion P (l ++ m)
@@ -55,7 +55,7 @@ module _ (means : Pair → Option Frac) (code : Frac → Option Pair) (text : Li
 
   rows_are : rows_lines es (take (length es) p.places.of) (take p.rows.count p.rows.rows) ≡ script_of text (lines es)
   rows_are =
-      ap (λ (xs : List ℕ). rows_lines es xs (take p.rows.count p.rows.rows)) h.places
+      ap (λ (xs : List (Option ℕ)). rows_lines es xs (take p.rows.count p.rows.rows)) h.places
       ∙ ap (λ (rs : List Row). rows_lines es (map (place_of text (declared_names p.past)) es) rs) h.rows
       ∙ decoded text (declared_names p.past) es
       ∙ lines_are

@@ -6,9 +6,9 @@ use Rattle.script.specs.Checks.{and_then}
 use Rattle.number.specs.declared.Pair.{Pair}
 use Rattle.number.specs.Frac.{Frac}
 use Rattle.checker.specs.declared.refusals.Reason.TheVariants.{OtherTable, NameNotDeclared, NumberNotHeld}
-use Rattle.checker.specs.declared.refusals.Refusal.{Refusal}
+use Rattle.checker.specs.Refusals.{Refusal}
 use Rattle.checker.specs.declared.lines.Past.{Past}
-use Rattle.checker.specs.Refusals.{refused}
+use Rattle.refusal.specs.Refusals.{refused}
 use Rattle.entries.specs.Fields.{lines, unheld, first_word, head_of, second_place}
 use Rattle.checker.specs.Conditions.{refused_at, after_var, first_unknown, line_by, line_check, lines_check, at_first}
 use Rattle.checker.specs.Checking.{other_table, entries_check, check_of}

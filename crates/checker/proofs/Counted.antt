@@ -12,8 +12,8 @@ use Rattle.entries.specs.Decoding as D
 use Rattle.checker.specs.declared.lines.Past.{Past}
 use Rattle.checker.specs.Conditions.{variable, with_name, in_stretch, line_check, lines_check}
 use Rattle.checker.specs.Laws.{LinePasses}
-use Rattle.checker.proofs.Passing.{then_ok, line_passes, after_rate_keeps, after_block_keeps}
-use Rattle.checker.proofs.Nested.{Room, moves, named_is, no_var, var_keeps, none_declared, Told, told, it_is, it_is_not}
+use Rattle.checker.proofs.Passing.{Told, told, it_is, it_is_not, then_ok, line_passes, after_rate_keeps, after_block_keeps}
+use Rattle.checker.proofs.Nested.{Room, moves, named_is, no_var, var_keeps, none_declared}
 
 module _ (means : Pair → Option Frac) (code : Frac → Option Pair) (text : List ℕ) (names : List Place) where
   -- a line of another word than var declares nothing
@@ -44,9 +44,9 @@ module _ (means : Pair → Option Frac) (code : Frac → Option Pair) (text : Li
       let v = first_word (head_of l).token in
       let n = (head_of l).place.line in
       let h = line_passes means code text p v n l a.0 a.1 in
-      by v a.0 (told means code text names v) h (λ m. all_counted a.0 ls q m a.2) (λ m o. none_more a.0 ls q m o a.2)
+      by v a.0 (told v) h (λ m. all_counted a.0 ls q m a.2) (λ m o. none_more a.0 ls q m o a.2)
     where
-      by : (v : LineWord) (p' : Past) → Told means code text names v → LinePasses means code text p v (head_of l).place.line l p' →
+      by : (v : LineWord) (p' : Past) → Told v → LinePasses means code text p v (head_of l).place.line l p' →
           (Room p' → q.declared ≡ p'.declared + length (declared (map (D.line_of text names) ls))) → (Room p' → p'.others ≡ true → q.declared ≡ p'.declared) →
           q.declared ≡ p.declared + length (declared (D.of_word text names v l ∷ map (D.line_of text names) ls))
       by v p' (it_is x) h vars rest =

@@ -1,5 +1,5 @@
 -- The lines that rows stand for are those of the entries. Assumes nothing.
-use Rattle.std.proofs.Common.{◌≡◌, ℕ, zero, suc, ◌+◌, ◌-◌, Bool, true, false, cond, List, [], ◌∷◌, ◌++◌, map, length, take, drop, sym, refl, ap, ◌∙◌, arith}
+use Rattle.std.proofs.Common.{◌≡◌, ℕ, zero, suc, ◌+◌, ◌-◌, Bool, true, false, cond, List, [], ◌∷◌, ◌++◌, map, length, take, drop, Option, sym, refl, ap, ◌∙◌, arith}
 use Rattle.std.proofs.lemmas.List.{drop-drop, drop-map, take-map}
 use Rattle.script.specs.declared.words.LineWord.{LineWord}
 use Rattle.script.specs.declared.places.Place.{Place}
@@ -24,6 +24,9 @@ flat_lines (e ∷ es) = by (fresh es) ∙ ap (λ (l : List Entry). e ∷ l) (fla
     by : (b : Bool) → flat (cond b ((e ∷ []) ∷ lines es) (onto e (lines es))) ≡ e ∷ flat (lines es)
     by true = refl
     by false = flat_onto e (lines es)
+
+pub line_joined : (es line rest : List Entry) → lines es ≡ line ∷ lines rest → es ≡ line ++ rest
+line_joined es line rest h = sym (flat_lines es) ∙ ap flat h ∙ ap (λ (l : List Entry). line ++ l) (flat_lines rest)
 
 -- a line cut out of what begins with it
 whole : (l r : List Entry) → take (length l) (l ++ r) ≡ l
@@ -53,11 +56,11 @@ module _ (text : List ℕ) (names : List Place) (es : List Entry) where
   part_places : (from to : ℕ) → part from to (map (place_of text names) es) ≡ map (place_of text names) (part from to es)
   part_places from to = ap (take (to - from)) (drop-map (place_of text names) from es) ∙ take-map (place_of text names) (to - from) (drop from es)
 
-  by_row : (w : LineWord) (x at : ℕ) (l r : List Entry) → drop at es ≡ l ++ r → row_line es (map (place_of text names) es) (row_by w x at (length l)) ≡ line_by w x (drop (before_items w) l) (map (place_of text names) (drop (before_items w) l))
+  by_row : (w : LineWord) (x : Option ℕ) (at : ℕ) (l r : List Entry) → drop at es ≡ l ++ r → row_line es (map (place_of text names) es) (row_by w x at (length l)) ≡ line_by w x (drop (before_items w) l) (map (place_of text names) (drop (before_items w) l))
   by_row w x at l r e =
       let p : part (at + before_items w) (at + length l) es ≡ drop (before_items w) l = part_line at (before_items w) l r e in
       ap (λ (m : List Entry). line_by w x m (part (at + before_items w) (at + length l) (map (place_of text names) es))) p
-      ∙ ap (λ (m : List ℕ). line_by w x (drop (before_items w) l) m) (part_places (at + before_items w) (at + length l) ∙ ap (map (place_of text names)) p)
+      ∙ ap (λ (m : List (Option ℕ)). line_by w x (drop (before_items w) l) m) (part_places (at + before_items w) (at + length l) ∙ ap (map (place_of text names)) p)
 
   rows_decoded : (at : ℕ) (ls : List (List Entry)) → drop at es ≡ flat ls → rows_lines es (map (place_of text names) es) (rows_from text names at ls) ≡ map (line_of text names) ls
   rows_decoded at [] e = refl

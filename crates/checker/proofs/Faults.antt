@@ -8,7 +8,7 @@ use Rattle.script.specs.Places.{bytes_at}
 use Rattle.script.specs.Checks.{and_then}
 use Rattle.number.specs.declared.Pair.{Pair}
 use Rattle.number.specs.Frac.{Frac}
-use Rattle.checker.specs.declared.refusals.Refusal.{Refusal}
+use Rattle.checker.specs.Refusals.{Refusal}
 use Rattle.checker.specs.declared.lines.Past.{Past}
 use Rattle.entries.specs.Fields.{second_place, not_held, unheld}
 use Rattle.checker.specs.Conditions.{variable, after_var, first_unknown, after_rate, after_block, items_wrong, line_check, lines_check}

@@ -1,4 +1,3 @@
-pub mod RateRows
 pub mod Splits
 pub mod LaidOut
 pub mod Led
@@ -19,3 +18,4 @@ pub mod Runs
 pub mod Verdict
 pub mod Lined
 pub mod Short
+pub mod Sound

@@ -26,7 +26,7 @@ module _ (text : List ℕ) where
   -- before the next line
   next_fresh : (n : ℕ) (rs : List Row) (es : List Entry) → map (cell_of text) es ≡ cells n rs → rest_of_line es ≡ 0
   next_fresh n rs [] e = refl
-  next_fresh n [] (x ∷ es) e = let z : ◌≡◌ {A = ℕ} 0 1 = cc in absurd (omega arith)
+  next_fresh n [] (x ∷ es) e = cc
   next_fresh n (row f fs ∷ rs) (x ∷ es) e =
       let q : cell_of text x ≡ cell n 1 f = cc in
       cond-true (eqb x.place.field 1) _ _ (eq-eqb x.place.field 1 (ap (λ (c : Cell). c.field) q))
@@ -34,7 +34,7 @@ module _ (text : List ℕ) where
   -- so many fields are left of a line
   rest_is : (n k : ℕ) (fs : List (List ℕ)) (rs : List Row) (es : List Entry) → 2 ≤ k → map (cell_of text) es ≡ cells_from n k fs ++ cells (n + 1) rs → rest_of_line es ≡ length fs
   rest_is n k [] rs es h e = next_fresh (n + 1) rs es e
-  rest_is n k (f ∷ fs) rs [] h e = let z : ◌≡◌ {A = ℕ} 0 1 = cc in absurd (omega arith)
+  rest_is n k (f ∷ fs) rs [] h e = cc
   rest_is n k (f ∷ fs) rs (x ∷ es) h e =
       let q : cell_of text x ≡ cell n k f = cc in
       let t : map (cell_of text) es ≡ cells_from n (k + 1) fs ++ cells (n + 1) rs = cc in
@@ -44,8 +44,8 @@ module _ (text : List ℕ) where
 
   by_lines : (n : ℕ) (rs : List Row) (es : List Entry) → map (cell_of text) es ≡ cells n rs → map (map (cell_of text)) (lines es) ≡ numbered n rs
   by_lines n [] [] e = refl
-  by_lines n [] (x ∷ es) e = let z : ◌≡◌ {A = ℕ} 0 1 = cc in absurd (omega arith)
-  by_lines n (row f fs ∷ rs) [] e = let z : ◌≡◌ {A = ℕ} 0 1 = cc in absurd (omega arith)
+  by_lines n [] (x ∷ es) e = cc
+  by_lines n (row f fs ∷ rs) [] e = cc
   by_lines n (row f fs ∷ rs) (x ∷ es) e =
       let q : cell_of text x ≡ cell n 1 f = cc in
       let t : map (cell_of text) es ≡ cells_from n 2 fs ++ cells (n + 1) rs = cc in
@@ -60,9 +60,9 @@ module _ (text : List ℕ) where
 
   -- the number of a line
   number_in : (n m : ℕ) (rs : List Row) (before : List (List Entry)) (l : List Entry) (after : List (List Entry)) → m ≡ length before + n → map (map (cell_of text)) (before ++ l ∷ after) ≡ numbered n rs → number_on l ≡ m
-  number_in n m [] [] l after q e = let z : ◌≡◌ {A = ℕ} 0 1 = cc in absurd (omega arith)
-  number_in n m [] (x ∷ xs) l after q e = let z : ◌≡◌ {A = ℕ} 0 1 = cc in absurd (omega arith)
-  number_in n m (row f fs ∷ rs) [] [] after q e = let z : ◌≡◌ {A = ℕ} 0 1 = cc in absurd (omega arith)
+  number_in n m [] [] l after q e = cc
+  number_in n m [] (x ∷ xs) l after q e = cc
+  number_in n m (row f fs ∷ rs) [] [] after q e = cc
   number_in n m (row f fs ∷ rs) [] (x ∷ l) after q e =
       let c : cell_of text x ≡ cell n 1 f = cc in
       ap (λ (y : Cell). y.line) c ∙ omega arith

@@ -13,7 +13,7 @@ use Rattle.motion.specs.Chains.{Shallow, Shallows}
 use Rattle.motion.specs.ReadOff.{Block, block, put, put_run, put_rate, put_if, put_while, put_end, read}
 use Rattle.motion.specs.NextLine.{declared, rates as first_rates}
 use Rattle.motion.proofs.ReadOff.{sound}
-use Rattle.checker.specs.declared.refusals.Refusal.{Refusal}
+use Rattle.checker.specs.Refusals.{Refusal}
 use Rattle.checker.specs.declared.lines.Past.{Past}
 use Rattle.checker.specs.declared.lines.Block as B
 use Rattle.entries.specs.Fields.{first_word, head_of, second_place}
@@ -22,7 +22,7 @@ use Rattle.checker.specs.Conditions.{var_misplaced, variable, with_name, with_ot
 use Rattle.checker.specs.Conditions as C
 use Rattle.entries.specs.Decoding as D
 use Rattle.checker.specs.Laws.{LinePasses, ShallowRuns, more}
-use Rattle.checker.proofs.Passing.{then_ok, passes_by, line_passes}
+use Rattle.checker.proofs.Passing.{Told, told, it_is, it_is_not, other_word, then_ok, passes_by, line_passes}
 use Rattle.checker.proofs.OpenBlocks.{opened_in, opened_zero, opened_top, opened_one}
 
 -- the open blocks, the innermost first: whether each is an if that has no else yet
@@ -165,7 +165,7 @@ module _ (p : Past) (n : ℕ) (room : Room p) where
   in_there a false b e = grind (arith, nat_tests)
 
   rates_on : (l : Rate) (x : Option ℕ) (r q : Past) → rate_on (with_other p) n x ≡ Ok r → ◌≡◌ {A = Result Past Refusal} (Ok r) (Ok q) → Moves p (rate_line l) q
-  rates_on l None r q e f = let z : ◌≡◌ {A = ℕ} 0 1 = cc in absurd (omega arith)
+  rates_on l None r q e f = cc
   rates_on l (Some x) r q e f =
       let h = passes_by (rate_misplaced (with_other p) x) _ _ r e in
       let s : p.stretch ≡ true = in_there (leb 16 x) p.stretch _ h.0 in
@@ -186,14 +186,7 @@ module _ (means : Pair → Option Frac) (code : Frac → Option Pair) (text : Li
   moves_by w.End x r nv e f = closes_end p n room r q e f
 
   pub named_is : (v : LineWord) (m : Past) → (v ≡ w.Var → ⊥) → after_var text p v n (second_place line) ≡ Ok m → with_other p ≡ m
-  named_is w.Var m nv e = absurd (nv refl)
-  named_is w.Set m nv e = cc
-  named_is w.Run m nv e = cc
-  named_is w.Rate m nv e = cc
-  named_is w.If m nv e = cc
-  named_is w.Else m nv e = cc
-  named_is w.While m nv e = cc
-  named_is w.End m nv e = cc
+  named_is v m nv e = let f = sym (other_word text p v n (second_place line) nv) ∙ e in cc
 
   pub moves : (v : LineWord) → (v ≡ w.Var → ⊥) → LinePasses means code text p v n line q → Moves p (D.of_word text names v line) q
   moves v nv h =
@@ -205,7 +198,7 @@ module _ (means : Pair → Option Frac) (code : Frac → Option Pair) (text : Li
       let f : declare text p n (second_place line) ≡ Ok h.named = subst (λ (u : LineWord). after_var text p u n (second_place line) ≡ Ok h.named) e h.var_in_place in
       let g = (passes_by (var_misplaced text p (second_place line)) _ _ h.named f).0 in
       let k : (true || (leb 16 p.declared || not (F.is_none (variable text p (second_place line))))) ≡ false = subst (λ (b : Bool). (b || (leb 16 p.declared || not (F.is_none (variable text p (second_place line))))) ≡ false) o g in
-      let z : ◌≡◌ {A = ℕ} 0 1 = cc in omega arith
+      cc
 
 module _ (means : Pair → Option Frac) (code : Frac → Option Pair) (text : List ℕ) (names : List Place) where
   none_open : (p : Past) → p.depth ≡ 0 → open_in p ≡ []
@@ -235,30 +228,7 @@ module _ (means : Pair → Option Frac) (code : Frac → Option Pair) (text : Li
 
   pub none_declared : (v : LineWord) (l : List Entry) (ls : List Line) → (v ≡ w.Var → ⊥) → declared (D.of_word text names v l ∷ ls) ≡ []
   none_declared w.Var l ls nv = absurd (nv refl)
-  none_declared w.Set l ls nv = refl
-  none_declared w.Run l ls nv = refl
-  none_declared w.Rate l ls nv = refl
-  none_declared w.If l ls nv = refl
-  none_declared w.Else l ls nv = refl
-  none_declared w.While l ls nv = refl
-  none_declared w.End l ls nv = refl
-
-  pub data Told (v : LineWord) : Type 0 where
-    it_is : v ≡ w.Var → Told v
-    it_is_not : (v ≡ w.Var → ⊥) → Told v
-
-  clash : (v : LineWord) → (v ≡ w.Var → ⊥) → Told v
-  clash v nv = it_is_not nv
-
-  pub told : (v : LineWord) → Told v
-  told w.Var = it_is refl
-  told w.Set = it_is_not (λ e. let z : ◌≡◌ {A = ℕ} 0 1 = cc in omega arith)
-  told w.Run = it_is_not (λ e. let z : ◌≡◌ {A = ℕ} 0 1 = cc in omega arith)
-  told w.Rate = it_is_not (λ e. let z : ◌≡◌ {A = ℕ} 0 1 = cc in omega arith)
-  told w.If = it_is_not (λ e. let z : ◌≡◌ {A = ℕ} 0 1 = cc in omega arith)
-  told w.Else = it_is_not (λ e. let z : ◌≡◌ {A = ℕ} 0 1 = cc in omega arith)
-  told w.While = it_is_not (λ e. let z : ◌≡◌ {A = ℕ} 0 1 = cc in omega arith)
-  told w.End = it_is_not (λ e. let z : ◌≡◌ {A = ℕ} 0 1 = cc in omega arith)
+  none_declared v l ls nv = refl
 
   -- the program behind the var lines, of lines of which the first has the number i
   abbrev pub Spelled : ℕ → List Line → Type 0

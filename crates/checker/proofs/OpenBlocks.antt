@@ -43,5 +43,5 @@ opened_none d bs e = sym (opened_count d bs) ∙ ap length e
 -- the innermost and the others
 pub opened_some : (d : ℕ) (bs : List Block) (b : Block) (os : List Block) → opened_in d bs ≡ b ∷ os → (m : ℕ) × (d ≡ m + 1) × (get_or bs m (block 0 false) ≡ b) × (opened_in m bs ≡ os)
 unfolding opened_in
-opened_some zero bs b os e = let z : ◌≡◌ {A = ℕ} 0 1 = cc in absurd (omega arith)
+opened_some zero bs b os e = cc
 opened_some (suc m) bs b os e = (m, omega arith, cc, cc)

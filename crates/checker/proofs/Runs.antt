@@ -1,6 +1,5 @@
 -- A walk of five names is found exactly in the runs that break the rule on chains. Assumes nothing.
 use Rattle.std.proofs.Common.{◌≡◌, ℕ, ◌+◌, Bool, true, false, not, ◌&&◌, List, [], ◌∷◌, ◌++◌, map, length, Ok, Err, sym, refl, ap, ◌∙◌, subst, append-nil, arith}
-use borrow.Author.Tests.{clash}
 use Rattle.std.proofs.lemmas.Bool.{and_parts, cond-true, cond-false}
 use Rattle.script.specs.declared.words.LineWord.{LineWord}
 use Rattle.script.specs.declared.words.LineWord.TheVariants as w
@@ -13,7 +12,7 @@ use Rattle.motion.specs.NameChains.{BreaksRule}
 use Rattle.motion.proofs.Chains.{shallow_told, started}
 use Rattle.motion.proofs.NameChains.{chains_ruled, rule_kept}
 use Rattle.checker.specs.declared.refusals.Reason.TheVariants.{Chains}
-use Rattle.checker.specs.Refusals.{refused}
+use Rattle.refusal.specs.Refusals.{refused}
 use Rattle.entries.specs.Decoding.{line_of, of_word}
 use Rattle.checker.specs.Chains.{is_empty, is_deep, deep_first, chains_check, is_run}
 use Rattle.checker.specs.Verdict.{word_on, RunBreaks, RunsKeep}
@@ -23,7 +22,7 @@ deep_breaks : (rs : List Rate) → is_deep rs ≡ true → BreaksRule rs
 deep_breaks rs e = by (starts rs 4) refl e
   where
     by : (xs : List ℕ) → starts rs 4 ≡ xs → not (is_empty xs) ≡ true → BreaksRule rs
-    by [] s e = absurd (clash e)
+    by [] s e = cc
     by (x ∷ xs) s e = (chains_ruled rs).1 x (started rs 4 x xs s)
 
 shallow_keeps : (rs : List Rate) → is_deep rs ≡ false → BreaksRule rs → ⊥
@@ -31,28 +30,16 @@ shallow_keeps rs e = (rule_kept rs).0 ((shallow_told rs).1 (by (starts rs 4) e))
   where
     by : (xs : List ℕ) → not (is_empty xs) ≡ false → xs ≡ []
     by [] e = refl
-    by (x ∷ xs) e = absurd (clash (sym e))
+    by (x ∷ xs) e = cc
 
 the_run : (v : LineWord) → is_run v ≡ true → v ≡ w.Run
-the_run w.Var e = absurd (clash e)
-the_run w.Set e = absurd (clash e)
 the_run w.Run e = refl
-the_run w.Rate e = absurd (clash e)
-the_run w.If e = absurd (clash e)
-the_run w.Else e = absurd (clash e)
-the_run w.While e = absurd (clash e)
-the_run w.End e = absurd (clash e)
+the_run v e = cc
 
 module _ (text : List ℕ) (names : List Place) where
   deep_by : (v : LineWord) (l : List Entry) (ls : List Line) → deep_first (of_word text names v l ∷ ls) ≡ (is_run v && is_deep (rates ls))
-  deep_by w.Var l ls = refl
-  deep_by w.Set l ls = refl
   deep_by w.Run l ls = refl
-  deep_by w.Rate l ls = refl
-  deep_by w.If l ls = refl
-  deep_by w.Else l ls = refl
-  deep_by w.While l ls = refl
-  deep_by w.End l ls = refl
+  deep_by v l ls = refl
 
   abbrev deep : List Entry → List (List Entry) → Bool
   deep l below = deep_first (line_of text names l ∷ map (line_of text names) below)

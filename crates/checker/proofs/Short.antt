@@ -7,7 +7,7 @@ use Rattle.std.specs.List.{AllByRecursion}
 use Rattle.script.specs.declared.words.LineWord.{LineWord}
 use Rattle.script.specs.declared.words.LineWord.TheVariants.{Var, Set, Run, Rate, If, Else, While, End}
 use Rattle.script.specs.declared.reading.Entry.{Entry}
-use Rattle.script.specs.declared.refusals.Refusal.{Refusal}
+use Rattle.script.specs.Refusals.{Refusal}
 use Rattle.script.specs.Words.{line_word}
 use Rattle.script.specs.Lines.{Row, row, rows, first, width, row_cells}
 use Rattle.script.specs.Laws.{cell_of}
@@ -33,15 +33,15 @@ row_short line r h = by (line_word (first r)) h
   where
     counted : (w : LineWord) (b : Bool) → count_suits w (width r) ≡ b → (x : Result Unit Refusal) (e : Refusal) → passes (cond b x (Err e)) ≡ true → width r ≤ 18
     counted w true c x e h = few_fields w (width r) c
-    counted w false c x e h = let z : ◌≡◌ {A = ℕ} 0 1 = cc in absurd (omega arith)
+    counted w false c x e h = cc
 
     by : (o : Option LineWord) → passes (by_word line r o) ≡ true → width r ≤ 18
     by (Some w) h = counted w (count_suits w (width r)) refl _ _ h
-    by None h = let z : ◌≡◌ {A = ℕ} 0 1 = cc in absurd (omega arith)
+    by None h = cc
 
 first_passes : (a b : Result Unit Refusal) → passes (and_then a (λ _. b)) ≡ true → (passes a ≡ true) × (passes b ≡ true)
 first_passes (Ok u) b h = (refl, h)
-first_passes (Err e) b h = let z : ◌≡◌ {A = ℕ} 0 1 = cc in absurd (omega arith)
+first_passes (Err e) b h = cc
 
 rows_short : (line : ℕ) (rs : List Row) → passes (rows_check line rs) ≡ true → AllByRecursion (λ r. width r ≤ 18) rs
 rows_short line [] h = tt
@@ -65,8 +65,8 @@ ended : (a b : Bool) (e f : Refusal) (r : Result ℕ Refusal) → passes (cond a
 ended a true e f r h = by a h
   where
     by : (a : Bool) → passes {A = ℕ} (cond a (Err e) (Err f)) ≡ true → true ≡ false
-    by true h = let z : ◌≡◌ {A = ℕ} 0 1 = cc in absurd (omega arith)
-    by false h = let z : ◌≡◌ {A = ℕ} 0 1 = cc in absurd (omega arith)
+    by true h = cc
+    by false h = cc
 ended a false e f r h = refl
 
 pub lines_short : (text : List ℕ) → is_in_order text ≡ true → AllByRecursion (λ l. length l ≤ 18) (lines (entries text))

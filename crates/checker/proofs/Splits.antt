@@ -1,14 +1,11 @@
 -- Entries by lines, as they are gone through. Assumes nothing.
-use Rattle.std.proofs.Common.{◌≡◌, ℕ, suc, ◌+◌, ◌-◌, ◌<◌, ◌≤◌, Bool, true, false, eqb, List, [], ◌∷◌, length, get_or, take, drop, Ok, Option, Result, sym, refl, ap, ◌∙◌, arith}
-use Rattle.std.proofs.lemmas.List.{at_drop_all, drop_more, drop-drop}
+use Rattle.std.proofs.Common.{◌≡◌, ℕ, suc, ◌+◌, ◌<◌, ◌≤◌, Bool, true, false, cond, not, eqb, ltb, List, [], ◌∷◌, length, take, drop, unwrap_or, Some, None, sym, refl, ap, ◌∙◌, arith}
+use Rattle.std.proofs.lemmas.List.Recursion.{is_position_or_len}
+use Rattle.std.proofs.lemmas.List.Sums.{prefix_len-le-length}
+use Rattle.std.proofs.lemmas.Bool.{ltb-false}
+use Rattle.std.specs.List.{position, position_or_len}
 use Rattle.script.specs.declared.reading.Entry.{Entry}
-use Rattle.script.specs.Checks.{and_then}
-use Rattle.number.specs.declared.Pair.{Pair}
-use Rattle.number.specs.Frac.{Frac}
-use Rattle.checker.specs.declared.refusals.Refusal.{Refusal}
-use Rattle.checker.specs.declared.lines.Past.{Past}
-use Rattle.entries.specs.Fields.{rest_of_line, onto, lines, blank}
-use Rattle.checker.specs.Conditions.{line_check, lines_check}
+use Rattle.entries.specs.Fields.{rest_of_line, fresh, onto, lines}
 
 -- the first line, and the others
 pub lines_split : (e : Entry) (es : List Entry) → lines (e ∷ es) ≡ (e ∷ take (rest_of_line es) es) ∷ lines (drop (rest_of_line es) es)
@@ -21,24 +18,43 @@ lines_split e (f ∷ es) = go (eqb f.place.field 1) refl (lines_split f es)
         let one : rest_of_line es + 1 ≡ suc (rest_of_line es) = omega arith in
         rw (p, one) (ap (onto e) q)
 
-module _ (es : List Entry) (at to : ℕ) (within : at < length es) (ends : to ≡ at + 1 + rest_of_line (drop (at + 1) es)) where
-  pub lines_at : lines (drop at es) ≡ take (to - at) (drop at es) ∷ lines (drop to es)
-  lines_at =
-      let r = rest_of_line (drop (at + 1) es) in
-      let d : drop at es ≡ get_or es at blank ∷ drop (at + 1) es = drop_more es at blank within in
-      let n : to - at ≡ suc r = omega arith in
-      let t : drop r (drop (at + 1) es) ≡ drop to es = drop-drop r (at + 1) es ∙ ap (λ (k : ℕ). drop k es) (omega arith) in
-      ap lines d
-      ∙ lines_split (get_or es at blank) (drop (at + 1) es)
-      ∙ ap (λ (xs : List Entry). (get_or es at blank ∷ take r (drop (at + 1) es)) ∷ lines xs) t
-      ∙ ap (λ (xs : List Entry). xs ∷ lines (drop to es)) (sym (ap (λ (k : ℕ). take k (drop at es)) n ∙ ap (take (suc r)) d))
+-- the same, of a slice that is cut behind its first line
+pub lines_cut : (es : List Entry) (e : Entry) (others line rest : List Entry) (n : ℕ) → es ≡ e ∷ others → n ≡ rest_of_line others → line ≡ take (1 + n) es → rest ≡ drop (1 + n) es → lines es ≡ line ∷ lines rest
+lines_cut es e others line rest n p q f b =
+    let m : 1 + n ≡ suc (rest_of_line others) = omega (arith, q) in
+    ap lines p
+    ∙ lines_split e others
+    ∙ ap (λ (l : List Entry). l ∷ lines (drop (rest_of_line others) others)) (sym (f ∙ ap (λ (k : ℕ). take k es) m ∙ ap (take (suc (rest_of_line others))) p))
+    ∙ ap (λ (l : List Entry). line ∷ lines l) (sym (b ∙ ap (λ (k : ℕ). drop k es) m ∙ ap (drop (suc (rest_of_line others))) p))
 
-  module _ (means : Pair → Option Frac) (code : Frac → Option Pair) (text : List ℕ) (p : Past) where
-    pub line_turn : (o : Result Past Refusal) → o ≡ line_check means code text p (take (to - at) (drop at es)) → lines_check means code text p (lines (drop at es)) ≡ and_then o (λ q. lines_check means code text q (lines (drop to es)))
-    line_turn o e = ap (lines_check means code text p) lines_at ∙ ap (λ (r : Result Past Refusal). and_then r (λ q. lines_check means code text q (lines (drop to es)))) (sym e)
+-- the next line begins at the first entry whose field is 1
+pub next_line_is : (es : List Entry) → unwrap_or (position (λ (e : Entry). eqb e.place.field 1) es) (length es) ≡ rest_of_line es
+next_line_is es = by (ltb (position_or_len begins es) (length es)) refl
+  where
+    begins : Entry → Bool
+    begins e = eqb e.place.field 1
 
-pub lines_over : (means : Pair → Option Frac) (code : Frac → Option Pair) (text : List ℕ) (p : Past) (es : List Entry) (at : ℕ) → length es ≤ at → lines_check means code text p (lines (drop at es)) ≡ Ok p
-lines_over means code text p es at h = at_drop_all (λ (xs : List Entry). lines_check means code text p (lines xs)) es at h
+    there : rest_of_line es ≡ position_or_len begins es
+    there = is_position_or_len rest_of_line begins refl (λ e es. ap (λ (n : ℕ). cond (begins e) 0 n) (omega arith)) es
 
-pub no_lines : (es : List Entry) (at : ℕ) → length es ≤ at → length (lines (drop at es)) ≡ 0
-no_lines es at h = at_drop_all (λ (xs : List Entry). length (lines xs)) es at h
+    by : (b : Bool) → ltb (position_or_len begins es) (length es) ≡ b → unwrap_or (cond b (Some (position_or_len begins es)) None) (length es) ≡ rest_of_line es
+    by true p = sym there
+    by false p = omega (arith, there, ltb-false _ _ p, prefix_len-le-length (λ e. not (begins e)) es)
+
+-- no line is empty
+pub line_filled : (es l : List Entry) (ls : List (List Entry)) → lines es ≡ l ∷ ls → 0 < length l
+line_filled [] l ls h = cc
+line_filled (e ∷ es) l ls h =
+    let p : (e ∷ take (rest_of_line es) es) ∷ lines (drop (rest_of_line es) es) ≡ l ∷ ls = sym (lines_split e es) ∙ h in
+    let q : e ∷ take (rest_of_line es) es ≡ l = cc in
+    omega (arith, ap length q)
+
+-- so there are at most as many lines as entries
+pub lines_few : (es : List Entry) → length (lines es) ≤ length es
+lines_few [] = omega arith
+lines_few (e ∷ es) = by (fresh es) (lines es) (lines_few es)
+  where
+    by : (b : Bool) (ls : List (List Entry)) → length ls ≤ length es → length (cond b ((e ∷ []) ∷ ls) (onto e ls)) ≤ suc (length es)
+    by true ls h = omega arith
+    by false [] h = omega arith
+    by false (l ∷ ls) h = omega arith

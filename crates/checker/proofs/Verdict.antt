@@ -9,11 +9,11 @@ use Rattle.script.specs.Reading.{entries}
 use Rattle.script.specs.Checks.{and_then}
 use Rattle.number.specs.declared.Pair.{Pair}
 use Rattle.number.specs.Frac.{Frac}
-use Rattle.checker.specs.declared.refusals.Refusal.{Refusal}
+use Rattle.checker.specs.Refusals.{Refusal}
 use Rattle.checker.specs.declared.refusals.Reason.TheVariants.{Blocks}
 use Rattle.checker.specs.declared.lines.Block.{Block}
 use Rattle.checker.specs.declared.lines.Past.{Past}
-use Rattle.checker.specs.Refusals.{refused}
+use Rattle.refusal.specs.Refusals.{refused}
 use Rattle.entries.specs.Fields.{lines}
 use Rattle.entries.specs.Decoding.{names_of, line_of}
 use Rattle.entries.specs.Tables.{same_table}
@@ -159,13 +159,13 @@ module _ (means : Pair → Option Frac) (code : Frac → Option Pair) (text : Li
     where
       by : Decided → Accepted means code text fields table
       by (yes a) = a
-      by (no x r) = let f = refused_is x r in let z : ◌≡◌ {A = ℕ} 0 1 = cc in absurd (omega arith)
+      by (no x r) = let f = refused_is x r in cc
 
   refused_so : (e : Refusal) → check_of means code text fields table ≡ Err e → Refused means code text fields table e
   refused_so e h = by decided
     where
       by : Decided → Refused means code text fields table e
-      by (yes a) = let f = accepted_is a in let z : ◌≡◌ {A = ℕ} 0 1 = cc in absurd (omega arith)
+      by (yes a) = let f = accepted_is a in cc
       by (no x r) = let f = refused_is x r in let q : x ≡ e = cc in subst (Refused means code text fields table) q r
 
   check_judged : Judged means code text fields table (check_of means code text fields table)

@@ -6,10 +6,10 @@ use Rattle.script.specs.Checks.{and_then}
 use Rattle.number.specs.declared.Pair.{Pair}
 use Rattle.number.specs.Frac.{Frac}
 use Rattle.checker.specs.declared.refusals.Reason.TheVariants.{OtherTable, Blocks}
-use Rattle.checker.specs.declared.refusals.Refusal.{Refusal}
+use Rattle.checker.specs.Refusals.{Refusal}
 use Rattle.checker.specs.declared.lines.Past.{Past}
 use Rattle.checker.specs.declared.checking.Plan.{Plan}
-use Rattle.checker.specs.Refusals.{refused}
+use Rattle.refusal.specs.Refusals.{refused}
 use Rattle.entries.specs.Fields.{lines}
 use Rattle.checker.specs.Conditions.{at_first, innermost, lines_check, declared_names}
 use Rattle.entries.specs.Decoding.{place_of, rows_from, rows_lines, line_of}

@@ -1,5 +1,5 @@
 -- Line by line: what is known behind the lines so far, and the conditions 9 to 14 of the next one. Total on any entries.
-use Rattle.std.specs.Prelude.{ℕ, ◌+◌, ◌-◌, ◌≤◌, Bool, true, false, cond, not, ◌||◌, List, [], ◌∷◌, take, drop, replicate, Some, None, Ok, Err, Option, Result, ◌==◌, nat_le, slice_index_or, slice_set}
+use Rattle.std.specs.Prelude.{ℕ, ◌+◌, ◌-◌, Bool, true, false, cond, not, ◌||◌, List, [], ◌∷◌, take, drop, replicate, Some, None, Ok, Err, Option, Result, ◌==◌, nat_le, slice_index_or, slice_set}
 use Rattle.script.specs.declared.words.LineWord.{LineWord}
 use Rattle.script.specs.declared.words.LineWord.TheVariants.{Var, Set, Run, Rate, If, Else, While, End}
 use Rattle.script.specs.declared.places.Place.{Place}
@@ -10,11 +10,11 @@ use Rattle.number.specs.declared.Pair.{Pair}
 use Rattle.number.specs.Frac.{Frac}
 use Rattle.checker.specs.declared.refusals.Reason.{Reason}
 use Rattle.checker.specs.declared.refusals.Reason.TheVariants.{VarOutOfPlace, NameNotDeclared, NumberNotHeld, RateOutOfPlace, Blocks, Items}
-use Rattle.checker.specs.declared.refusals.Refusal.{Refusal}
+use Rattle.checker.specs.Refusals.{Refusal}
 use Rattle.entries.specs.declared.sorts.Sort.TheVariants as sort
 use Rattle.checker.specs.declared.lines.Block.{Block}
 use Rattle.checker.specs.declared.lines.Past.{Past}
-use Rattle.checker.specs.Refusals.{refused}
+use Rattle.refusal.specs.Refusals.{refused}
 use Rattle.entries.specs.Fields.{nowhere, head_of, second_place, first_word, is_none, find, undeclared, unheld}
 use Rattle.entries.specs.Sorts.{gives}
 
@@ -52,13 +52,7 @@ declare text p n at = cond (var_misplaced text p at) (Err (refused VarOutOfPlace
 
 abbrev pub after_var : List ℕ → Past → LineWord → ℕ → Place → Result Past Refusal
 after_var text p Var n at = declare text p n at
-after_var text p Set n at = Ok (with_other p)
-after_var text p Run n at = Ok (with_other p)
-after_var text p Rate n at = Ok (with_other p)
-after_var text p If n at = Ok (with_other p)
-after_var text p Else n at = Ok (with_other p)
-after_var text p While n at = Ok (with_other p)
-after_var text p End n at = Ok (with_other p)
+after_var text p v n at = Ok (with_other p)
 
 -- the field of the first name that is not declared, on a line whose field 2 has to be a name
 abbrev pub unknown_behind : List ℕ → Past → List Entry → Option ℕ
@@ -68,12 +62,8 @@ unknown_behind text p line = cond (is_none (variable text p (second_place line))
 abbrev pub first_unknown : List ℕ → Past → LineWord → List Entry → Option ℕ
 first_unknown text p Var line = None
 first_unknown text p Set line = unknown_behind text p line
-first_unknown text p Run line = undeclared text (declared_names p) line
 first_unknown text p Rate line = unknown_behind text p line
-first_unknown text p If line = undeclared text (declared_names p) line
-first_unknown text p Else line = undeclared text (declared_names p) line
-first_unknown text p While line = undeclared text (declared_names p) line
-first_unknown text p End line = undeclared text (declared_names p) line
+first_unknown text p v line = undeclared text (declared_names p) line
 
 -- what is known, with another stretch
 abbrev pub in_stretch : Past → Bool → List Bool → Past
@@ -90,12 +80,7 @@ rate_on p n None = Err (refused RateOutOfPlace n 2)
 abbrev pub after_rate : Past → LineWord → ℕ → Option ℕ → Result Past Refusal
 after_rate p Rate n x = rate_on p n x
 after_rate p Run n x = Ok (in_stretch p true (replicate 16 false))
-after_rate p Var n x = Ok (in_stretch p false p.rated)
-after_rate p Set n x = Ok (in_stretch p false p.rated)
-after_rate p If n x = Ok (in_stretch p false p.rated)
-after_rate p Else n x = Ok (in_stretch p false p.rated)
-after_rate p While n x = Ok (in_stretch p false p.rated)
-after_rate p End n x = Ok (in_stretch p false p.rated)
+after_rate p v n x = Ok (in_stretch p false p.rated)
 
 -- a block that is open: its line, and whether it is an if that has no else yet
 abbrev pub block : ℕ → Bool → Block
@@ -125,10 +110,7 @@ after_block p If n = opened p n true
 after_block p While n = opened p n false
 after_block p Else n = served p n
 after_block p End n = closed p n
-after_block p Var n = Ok p
-after_block p Set n = Ok p
-after_block p Run n = Ok p
-after_block p Rate n = Ok p
+after_block p v n = Ok p
 
 -- 14: the items of a line break their rules, or do not give one number, or truth
 abbrev pub items_wrong : LineWord → List Entry → Bool
@@ -136,10 +118,7 @@ items_wrong Set line = not (gives sort.Number (drop 2 line))
 items_wrong Run line = not (gives sort.Number (drop 1 line))
 items_wrong If line = not (gives sort.Truth (drop 1 line))
 items_wrong While line = not (gives sort.Truth (drop 1 line))
-items_wrong Var line = false
-items_wrong Rate line = false
-items_wrong Else line = false
-items_wrong End line = false
+items_wrong v line = false
 
 -- before the first line
 abbrev pub at_first : Past
@@ -163,8 +142,3 @@ module _ (means : Pair → Option Frac) (code : Frac → Option Pair) where
   abbrev pub lines_check : List ℕ → Past → List (List Entry) → Result Past Refusal
   lines_check text p [] = Ok p
   lines_check text p (l ∷ ls) = and_then (line_check text p l) (λ q. lines_check text q ls)
-
--- what is known has room
-pub record Kept (p : Past) : Type 0 where
-  pub few_names : p.declared ≤ 16
-  pub few_open : p.depth ≤ 8

@@ -12,7 +12,7 @@ use Rattle.motion.specs.Rules.{ProgramOf}
 use Rattle.motion.specs.Chains.{Shallow, Shallows}
 use Rattle.motion.specs.NextLine.{rates, declared}
 use Rattle.checker.specs.declared.refusals.Reason.TheVariants.{NumberNotHeld}
-use Rattle.checker.specs.declared.refusals.Refusal.{Refusal}
+use Rattle.checker.specs.Refusals.{Refusal}
 use Rattle.checker.specs.declared.lines.Past.{Past}
 use Rattle.entries.specs.Fields.{not_held, lines, unheld, second_place}
 use Rattle.checker.specs.Conditions.{after_var, first_unknown, variable, after_rate, after_block, items_wrong, line_by, at_first, lines_check, declared_names}

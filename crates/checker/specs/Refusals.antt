@@ -2,7 +2,7 @@
 use Rattle.std.specs.Prelude.{ℕ}
 use Rattle.checker.specs.declared.refusals.Reason.{Reason}
 use Rattle.checker.specs.declared.refusals.Reason.TheVariants.{OtherTable, VarOutOfPlace, NameNotDeclared, NumberNotHeld, RateOutOfPlace, Blocks, Items, Chains}
-use Rattle.checker.specs.declared.refusals.Refusal.{Refusal}
+use Rattle.refusal.specs.declared.Refusal as r
 
 -- the number by which a reason is known
 abbrev pub number_of : Reason → ℕ
@@ -15,6 +15,6 @@ number_of Blocks = 13
 number_of Items = 14
 number_of Chains = 15
 
--- a refusal for this reason, at this line and field
-abbrev pub refused : Reason → ℕ → ℕ → Refusal
-refused reason line field = record { reason = reason; line = line; field = field }
+-- a refusal by one of these reasons
+abbrev pub Refusal : Type 0
+Refusal = r.Refusal Reason

@@ -3,19 +3,20 @@ use Rattle.std.specs.Prelude.{◌≡◌, ℕ, ◌-◌, ◌≤◌, List, length, 
 use Rattle.std.specs.List.{AllByRecursion}
 use Rattle.script.specs.declared.places.Place.{Place}
 use Rattle.script.specs.declared.reading.Entry.{Entry}
+use Rattle.number.specs.declared.Kind.{Ghosts}
 use Rattle.number.specs.declared.Pair.{Pair}
 use Rattle.number.specs.Frac.{Frac}
 use Rattle.motion.specs.Lines.{Line}
 use Rattle.entries.specs.declared.rows.Row.{Row}
 use Rattle.entries.specs.Fields.{find}
 use Rattle.entries.specs.Decoding.{rows_lines}
-use Rattle.checker.specs.declared.checking.Checked.{Checked}
+use Rattle.checker.specs.declared.scripts.Checked.{Checked}
 use Rattle.checker.specs.declared.jumps.Jumps.{Jumps}
 use Rattle.checker.specs.Conditions.{declared_names}
 use Rattle.checker.specs.Jumps.{Leads}
 use Rattle.checker.specs.Laws.{Good, Found}
 
-module _ {X : Type 0} (s : Checked X) where
+module _ {X : Type 0} {K : Ghosts X} (s : Checked X K) where
   -- its text
   abbrev pub text_in : List ℕ
   text_in = s.text.now
@@ -25,7 +26,7 @@ module _ {X : Type 0} (s : Checked X) where
   table_in = s.table.now
 
   -- the place of each entry among the variables
-  abbrev pub places_in : List ℕ
+  abbrev pub places_in : List (Option ℕ)
   places_in = take (length table_in) s.plan.places.of
 
   -- its rows, one for each line
@@ -54,7 +55,7 @@ module _ {X : Type 0} (s : Checked X) where
     pub found : Found means code text_in table_in s.plan
 
 -- What is prepared in it is laid out as a run goes through it, in whatever kind.
-pub record Laid {X : Type 0} (s : Checked X) : Type 0 where
+pub record Laid {X : Type 0} {K : Ghosts X} (s : Checked X K) : Type 0 where
   -- each entry has its place among the variables
   pub placed : length (table_in s) ≡ length (places_in s)
   -- at most 256 lines, none of more than 18 entries

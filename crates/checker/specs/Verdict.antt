@@ -19,9 +19,9 @@ use Rattle.motion.specs.NameChains.{BreaksRule}
 use Rattle.entries.specs.Fields.{lines, head_of, second_place, first_word, is_name, not_held}
 use Rattle.entries.specs.Decoding.{names_of, line_of}
 use Rattle.checker.specs.declared.refusals.Reason.TheVariants.{OtherTable, VarOutOfPlace, NameNotDeclared, NumberNotHeld, RateOutOfPlace, Blocks, Items, Chains}
-use Rattle.checker.specs.declared.refusals.Refusal.{Refusal}
+use Rattle.checker.specs.Refusals.{Refusal}
 use Rattle.checker.specs.declared.lines.Block.{Block}
-use Rattle.checker.specs.Refusals.{refused}
+use Rattle.refusal.specs.Refusals.{refused}
 use Rattle.checker.specs.Conditions.{block, items_wrong}
 use Rattle.checker.specs.Chains.{is_empty, is_run, is_rate}
 
@@ -41,13 +41,7 @@ name_on text line = bytes_at text (second_place line)
 
 abbrev pub is_var : LineWord → Bool
 is_var w.Var = true
-is_var w.Set = false
-is_var w.Run = false
-is_var w.Rate = false
-is_var w.If = false
-is_var w.Else = false
-is_var w.While = false
-is_var w.End = false
+is_var v = false
 
 -- its fields that are names, each by its number and its place
 abbrev pub name_fields : List Entry → List (ℕ × Place)
@@ -58,12 +52,8 @@ name_fields (e ∷ es) = cond (is_name e.token) ((e.place.field, e.place) ∷ na
 abbrev pub uses : LineWord → List Entry → List (ℕ × Place)
 uses w.Var line = []
 uses w.Set line = (2, second_place line) ∷ name_fields line
-uses w.Run line = name_fields line
 uses w.Rate line = (2, second_place line) ∷ name_fields line
-uses w.If line = name_fields line
-uses w.Else line = name_fields line
-uses w.While line = name_fields line
-uses w.End line = name_fields line
+uses v line = name_fields line
 
 -- the lines above, the nearest first ----------------------------------------------
 
@@ -104,14 +94,11 @@ elsed (b ∷ bs) = block b.line false ∷ bs
 
 -- the open blocks, the innermost first, behind a line of this word and number
 abbrev pub blocks_after : LineWord → ℕ → List Block → List Block
-blocks_after w.Var n bs = bs
-blocks_after w.Set n bs = bs
-blocks_after w.Run n bs = bs
-blocks_after w.Rate n bs = bs
 blocks_after w.If n bs = block n true ∷ bs
 blocks_after w.Else n bs = elsed bs
 blocks_after w.While n bs = block n false ∷ bs
 blocks_after w.End n bs = drop 1 bs
+blocks_after v n bs = bs
 
 -- the blocks that are open behind these lines
 abbrev pub open_above : List (List Entry) → List Block
@@ -139,14 +126,11 @@ awaits_else (b ∷ bs) = b.elseless
 
 -- 13: an if or while inside eight blocks, an else without its if, an end without a block
 abbrev pub block_wrong : LineWord → List Block → Bool
-block_wrong w.Var bs = false
-block_wrong w.Set bs = false
-block_wrong w.Run bs = false
-block_wrong w.Rate bs = false
 block_wrong w.If bs = nat_le 8 (length bs)
 block_wrong w.Else bs = not (awaits_else bs)
 block_wrong w.While bs = nat_le 8 (length bs)
 block_wrong w.End bs = is_empty bs
+block_wrong v bs = false
 
 module _ (means : Pair → Option Frac) (code : Frac → Option Pair) where
   -- 11 does not hold: the kind holds all numbers among these fields

@@ -1,24 +1,24 @@
 // A draft is checked for a kind of number.
-ghost use Rattle.std.specs.Prelude.{◌≡◌, ℕ, ◌+◌, ◌<◌, ◌≤◌, List, map, length, take, IfOk, MatchOption, MatchResult, slice_index};
+ghost use Rattle.std.specs.Prelude.{◌≡◌, ℕ, ◌+◌, ◌<◌, ◌≤◌, List, map, length, take, IfOk, MatchOption, MatchResult};
 ghost use Rattle.entries.specs.Fields.{lines};
-ghost use Rattle.checker.specs.Conditions.{Kept, declared_names};
+ghost use Rattle.checker.specs.Conditions.{declared_names};
 ghost use Rattle.entries.specs.Decoding.{rows_lines, line_of};
 ghost use Rattle.checker.specs.Chains.{chains_check};
 ghost use Rattle.checker.specs.Laws.{KindsDifferByNumbers, LinesJudged, Good, Found};
 ghost use Rattle.checker.specs.Verdict.{Judged, LinesOfText, LinesNumbered};
-ghost use Rattle.checker.specs.Scripts.{table_in, places_in, rows_in, jumps_in, variable_in, Sound, Laid};
+ghost use Rattle.checker.specs.Scripts.{Sound, Laid};
 ghost use Rattle.checker.specs.Checking.{other_table, open_check, entries_check, check_of, outcome, answer_of, Planned, Ready, Passed};
 
 use crate::chains::check_chains;
 use crate::jumps::{Jumps, find_jumps};
-use crate::line_ends::line_end;
+use crate::line_ends::Lines;
 use crate::lines::{Past, check_lines};
-use crate::refusals::{Reason, Refusal, refuse};
+use crate::refusals::{Reason, Refusal};
 use crate::rows::{Places, Rows, find_places, find_rows};
-use entries::{Row, between, find_name, same_table};
+use crate::scripts::Checked;
+use entries::{Resolved, same_table};
 use number::Kind;
 use script::{Draft, Entry};
-use std::marker::PhantomData;
 
 // What is prepared for a script: its names, the places of its entries among them, its rows, and where a run goes on.
 #[derive(Clone, Copy)]
@@ -30,16 +30,10 @@ pub struct Plan {
 }
 
 // How many lines there are.
-fn count_lines(table: &[Entry]) -> usize
+pub fn count_lines(table: &[Entry]) -> usize
     ensures { result ≡ length (lines table.now) }
 {
-    let mut count: usize = 0;
-    let mut at: usize = 0;
-    while at < table.len() {
-        at = line_end(table, at);
-        count += 1;
-    }
-    count
+    Lines(table).count()
 }
 
 // 8: the table does not hold what the reader wrote.
@@ -58,30 +52,27 @@ fn is_other_table(text: &[u8], fields: usize, table: &[Entry]) -> bool
 
 // 13: a block is still open behind the last line.
 fn check_open(past: Past) -> Result<(), Refusal>
-    requires { Kept past }
     ensures { result ≡ open_check past }
 {
     if past.depth == 0 {
         return Ok(());
     }
-    Err(refuse(Reason::Blocks, past.blocks[past.depth - 1].line, 0))
+    Err(Refusal::new(Reason::Blocks, past.innermost().line, 0))
 }
 
 // What is prepared for these entries.
 fn make_plan(text: &[u8], past: Past, table: &[Entry]) -> Option<Plan>
-    requires { (Kept past) × ((length table.now ≤ 4608) × (length (lines table.now) ≤ 256)) }
+    requires { (past.declared ≤ 16) × ((length table.now ≤ 4608) × (length (lines table.now) ≤ 256)) }
     ensures { MatchOption result ⊥ (λ p. (p.past ≡ past) × Planned text.now table.now p × Ready table.now p) }
 {
-    let places = find_places(text, &past.names[..past.declared], table);
-    match find_rows(text, &past.names[..past.declared], table) {
-        Some(rows) => Some(Plan {
-            past,
-            places,
-            rows,
-            jumps: find_jumps(&rows.rows[..rows.count]),
-        }),
-        None => None,
-    }
+    let names = past.names(text);
+    let rows = find_rows(&names, table)?;
+    Some(Plan {
+        past,
+        places: find_places(&names, table),
+        rows,
+        jumps: find_jumps(rows.as_slice()),
+    })
 }
 
 // 15: run by run.
@@ -90,9 +81,8 @@ fn check_plan(text: &[u8], plan: Plan, table: &[Entry]) -> Result<(), Refusal>
     ensures { result ≡ chains_check 1 (map (line_of text.now (declared_names plan.past)) (lines table.now)) }
 {
     check_chains(
-        &plan.rows.rows[..plan.rows.count],
-        table,
-        &plan.places.of[..table.len()],
+        plan.rows.as_slice(),
+        Resolved::new(table, &plan.places.of[..table.len()]),
     )
 }
 
@@ -107,19 +97,10 @@ fn check_entries<K: Kind>(text: &[u8], table: &[Entry]) -> Result<Plan, Refusal>
     let past = check_lines::<K>(text, table)?;
     check_open(past)?;
     let Some(plan) = make_plan(text, past, table) else {
-        return Err(refuse(Reason::OtherTable, 0, 0));
+        return Err(Refusal::new(Reason::OtherTable, 0, 0));
     };
     check_plan(text, plan, table)?;
     Ok(plan)
-}
-
-// A script that passed its check for the kind K. It reads the table for as long as it lives.
-#[derive_where(Clone, Copy)]
-pub struct Checked<'t, 'a, K> {
-    text: &'t [u8],
-    table: &'a [Entry],
-    plan: Plan,
-    kind: PhantomData<K>,
 }
 
 // Checks a draft for the kind K. Accepted: the checked script. Refused: the draft as it was, and why.
@@ -136,84 +117,12 @@ pub fn check<'t, 'a, K: Kind>(
     let text = draft.text();
     let fields = draft.fields();
     if is_other_table(text, fields, table) {
-        return Err((draft, refuse(Reason::OtherTable, 0, 0)));
+        return Err((draft, Refusal::new(Reason::OtherTable, 0, 0)));
     }
     let entries = &table[..fields];
     match check_entries::<K>(text, entries) {
-        Ok(plan) => Ok(Checked {
-            text,
-            table: entries,
-            plan,
-            kind: PhantomData,
-        }),
+        Ok(plan) => Ok(Checked::new(text, entries, plan)),
         Err(refusal) => Err((draft, refusal)),
-    }
-}
-
-impl<K> Checked<'_, '_, K> {
-    // How many variables the script declares.
-    pub fn variables(&self) -> usize
-        ensures { result ≡ self.now.plan.past.declared }
-    {
-        self.plan.past.declared
-    }
-
-    // How many lines it has.
-    pub fn lines(&self) -> usize
-        ensures { result ≡ length (lines self.now.table.now) }
-    {
-        count_lines(self.table)
-    }
-
-    // Its entries.
-    pub fn table(&self) -> &[Entry]
-        ensures { result.now ≡ table_in self.now }
-    {
-        self.table
-    }
-
-    // The place of each entry among the variables; 16 where it is no name.
-    pub fn places(&self) -> &[u8]
-        ensures { result.now ≡ places_in self.now }
-    {
-        between(&self.plan.places.of, 0, self.table.len())
-    }
-
-    // Its rows, one for each line.
-    pub fn rows(&self) -> &[Row]
-        ensures { result.now ≡ rows_in self.now }
-    {
-        between(&self.plan.rows.rows, 0, self.plan.rows.count)
-    }
-
-    // The line of the next statement behind line n; 0 where there is no such line.
-    pub fn next(&self, n: usize) -> u32
-        ensures { n ≤ 256 → result ≡ slice_index (jumps_in self.now).next n }
-    {
-        if n < 257 {
-            self.plan.jumps.next[n] as u32
-        } else {
-            0
-        }
-    }
-
-    // The same where the body that begins behind line n is passed over.
-    pub fn past(&self, n: usize) -> u32
-        ensures { n ≤ 256 → result ≡ slice_index (jumps_in self.now).past n }
-    {
-        if n < 257 {
-            self.plan.jumps.past[n] as u32
-        } else {
-            0
-        }
-    }
-
-    // The place of this name among the variables.
-    pub fn variable(&self, name: &[u8]) -> Option<usize>
-        ensures { result ≡ variable_in self.now name.now }
-    {
-        let names = between(&self.plan.past.names, 0, self.plan.past.declared);
-        find_name(self.text, names, name)
     }
 }
 
@@ -227,9 +136,10 @@ pub fn lines_judged()
     ensures { LinesJudged }
 {}
 
-// What is prepared in a script that passed its check for K is laid out as a run goes through it.
+// A script that passed its check for K is sound for K, and what is prepared in it is laid out as a run goes through it.
 pub fn scripts_laid<K: Kind>(script: &Checked<K>)
-    ensures { Sound script.now K.Kind.means K.Kind.code → Laid script.now }
+    ensures sound { Sound script.now K.Kind.means K.Kind.code }
+    ensures laid { Laid script.now }
 {}
 
 // The lines of which a check speaks are those of the text, by their numbers.

@@ -1,19 +1,41 @@
 // Entries by lines.
-ghost use Rattle.std.specs.Prelude.{◌≡◌, ◌+◌, ◌<◌, ◌≤◌, length, drop};
-ghost use Rattle.entries.specs.Fields.{rest_of_line};
+ghost use Rattle.std.specs.Prelude.{◌≡◌, ◌==◌, ◌≤◌, length, position};
+ghost use Rattle.std.specs.Iterator.{YieldsFirstRef, item_count};
+ghost use Rattle.script.specs.declared.reading.Entry.{Entry};
+ghost use Rattle.entries.specs.Fields.{rest_of_line, lines};
 
 use script::Entry;
 
-// The index of the next line's first entry, or the table's length.
-pub fn line_end(table: &[Entry], from: usize) -> usize
-    requires { from < length table.now }
-    ensures within { (from < result) × (result ≤ length table.now) }
-    ensures end { result ≡ from + 1 + rest_of_line (drop (from + 1) table.now) }
+// Where the next line begins, which it does with a field 1.
+fn next_line(entries: &[Entry]) -> Option<usize>
+    ensures { result ≡ position (λ (e : Entry). e.place.field == 1) entries.now }
 {
-    for i in from + 1..table.len() {
-        if table[i].place.field == 1 {
-            return i;
-        }
+    entries.iter().position(|e| e.place.field == 1)
+}
+
+// How many of these entries come before the next line.
+fn rest_of_line(entries: &[Entry]) -> usize
+    ensures within { result ≤ length entries.now }
+    ensures end { result ≡ rest_of_line entries.now }
+{
+    next_line(entries).unwrap_or(entries.len())
+}
+
+// The lines of a table, one after the other.
+#[derive(Drop)]
+pub struct Lines<'a>(pub &'a [Entry]);
+
+impl<'a> Iterator for Lines<'a> {
+    type Item = &'a [Entry];
+
+    ghost next_gives = { YieldsFirstRef (λ s. lines s.0.now) };
+
+    ghost remaining = { item_count (λ s. lines s.0.now) };
+
+    fn next(&mut self) -> Option<&'a [Entry]> {
+        let (_, others) = self.0.split_first()?;
+        let (line, rest) = self.0.split_at(1 + rest_of_line(others));
+        self.0 = rest;
+        Some(line)
     }
-    table.len()
 }

@@ -1,19 +1,36 @@
 // Line by line: what is known behind the lines so far, and the conditions of the next one.
-ghost use Rattle.std.specs.Prelude.{◌≡◌, ℕ, ◌+◌, ◌<◌, ◌≤◌, Bool, length, drop, IfOk};
+ghost use Rattle.std.specs.Prelude.{◌≡◌, ℕ, ◌+◌, ◌<◌, ◌≤◌, Bool, length, drop};
 ghost use Rattle.entries.specs.Fields.{lines, head_of, second_place};
-ghost use Rattle.checker.specs.Conditions.{refused_if, refused_at, declared_names, variable, var_misplaced, after_var, declare, first_unknown, unknown_behind, rate_on, after_rate, opened, served, closed, after_block, items_wrong, line_by, line_check, lines_check, at_first, Kept};
+ghost use Rattle.checker.specs.Conditions.{refused_if, refused_at, declared_names, variable, var_misplaced, after_var, declare, first_unknown, unknown_behind, rate_on, after_rate, opened, served, closed, after_block, items_wrong, line_by, line_check, lines_check, at_first, innermost};
 
-use crate::line_ends::line_end;
-use crate::refusals::{Reason, Refusal, refuse};
-use entries::{Sort, find_name, first_undeclared, first_unheld, items_give, word_of};
+use crate::line_ends::Lines;
+use crate::names::Names;
+use crate::refusals::{Reason, Refusal};
+use entries::{Sort, between, first_undeclared, first_unheld, items_give, word_of};
 use number::Kind;
 use script::{Entry, LineWord, Place};
+
+// A place that no text has.
+const NOWHERE: Place = Place {
+    line: 0,
+    field: 0,
+    from: 0,
+    to: 0,
+};
 
 // A block that is open: its line, and whether it is an if that has no else yet.
 #[derive(Clone, Copy)]
 pub struct Block {
     pub line: usize,
     pub elseless: bool,
+}
+
+impl Block {
+    // What stands where no block is open.
+    const NONE: Block = Block {
+        line: 0,
+        elseless: false,
+    };
 }
 
 // What is known behind the lines so far.
@@ -44,43 +61,32 @@ pub fn first(line: &[Entry]) -> Entry
 pub fn second(line: &[Entry]) -> Place
     ensures { result ≡ second_place line.now }
 {
-    if line.len() > 1 {
-        line[1].place
-    } else {
-        Place {
-            line: 0,
-            field: 0,
-            from: 0,
-            to: 0,
-        }
-    }
+    line.get(1).map_or(NOWHERE, |e| e.place)
 }
 
 // The fields behind the first `n`.
 fn behind<'a>(line: &'a [Entry], n: usize) -> &'a [Entry]
     ensures { result.now ≡ drop n line.now }
 {
-    if n <= line.len() {
-        &line[n..]
-    } else {
-        &line[0..0]
-    }
+    line.get(n..).unwrap_or(&[])
 }
 
+// A refusal where the test says so.
 fn refuse_if(wrong: bool, reason: Reason, line: usize, field: usize) -> Result<(), Refusal>
     ensures { result ≡ refused_if wrong reason line field }
 {
     if wrong {
-        return Err(refuse(reason, line, field));
+        return Err(Refusal::new(reason, line, field));
     }
     Ok(())
 }
 
+// A refusal at a field, where there is one.
 fn refuse_at(field: Option<usize>, reason: Reason, line: usize) -> Result<(), Refusal>
     ensures { result ≡ refused_at «field» reason line }
 {
     match field {
-        Some(k) => Err(refuse(reason, line, k)),
+        Some(k) => Err(Refusal::new(reason, line, k)),
         None => Ok(()),
     }
 }
@@ -89,34 +95,34 @@ impl Past {
     // Before the first line.
     pub const FIRST: Past = Past {
         declared: 0,
-        names: [Place {
-            line: 0,
-            field: 0,
-            from: 0,
-            to: 0,
-        }; 16],
+        names: [NOWHERE; 16],
         others: false,
         stretch: false,
         rated: [false; 16],
         depth: 0,
-        blocks: [Block {
-            line: 0,
-            elseless: false,
-        }; 8],
+        blocks: [Block::NONE; 8],
     };
+
+    // The names that are declared.
+    pub fn names<'a>(&'a self, text: &'a [u8]) -> Names<'a>
+        ensures text { result.text.now ≡ text.now }
+        ensures places { result.places.now ≡ declared_names self.now }
+    {
+        Names {
+            text,
+            places: between(&self.names, 0, self.declared),
+        }
+    }
 
     // The place among the variables of the name that stands there.
     fn variable(&self, text: &[u8], at: Place) -> Option<usize>
-        requires { Kept self.now }
         ensures { result ≡ variable text.now self.now at }
     {
-        let names = &self.names[..self.declared];
-        find_name(text, names, at.bytes(text))
+        self.names(text).find(at)
     }
 
     // 9: a var line is behind a line of another word, is the 17th, or repeats a name.
     fn var_misplaced(&self, text: &[u8], at: Place) -> bool
-        requires { Kept self.now }
         ensures { result ≡ var_misplaced text.now self.now at }
     {
         self.others || self.declared >= 16 || self.variable(text, at).is_some()
@@ -124,9 +130,7 @@ impl Past {
 
     // Behind a var line that declares the name there, if it is in place; a line of another word changes no names.
     fn after_var(self, text: &[u8], word: LineWord, line: usize, at: Place) -> Result<Past, Refusal>
-        requires { Kept self }
-        ensures answer { result ≡ after_var text.now self word line at }
-        ensures kept { IfOk result Kept }
+        ensures { result ≡ after_var text.now self word line at }
     {
         match word {
             LineWord::Var => self.declare(text, line, at),
@@ -137,49 +141,37 @@ impl Past {
         }
     }
 
-    fn declare(self, text: &[u8], line: usize, at: Place) -> Result<Past, Refusal>
-        requires { Kept self }
-        ensures answer { result ≡ declare text.now self line at }
-        ensures kept { IfOk result Kept }
+    // Behind a var line, if it is in place.
+    fn declare(mut self, text: &[u8], line: usize, at: Place) -> Result<Past, Refusal>
+        ensures { result ≡ declare text.now self line at }
     {
         if self.var_misplaced(text, at) {
-            return Err(refuse(Reason::VarOutOfPlace, line, 2));
+            return Err(Refusal::new(Reason::VarOutOfPlace, line, 2));
         }
-        let mut names = self.names;
-        names[self.declared] = at;
-        Ok(Past {
-            declared: self.declared + 1,
-            names,
-            ..self
-        })
+        self.names[self.declared] = at;
+        self.declared += 1;
+        Ok(self)
     }
 
     // 10: the field of the first name on a line other than var that is not declared.
     fn first_unknown(&self, text: &[u8], word: LineWord, line: &[Entry]) -> Option<usize>
-        requires { Kept self.now }
         ensures { result ≡ first_unknown text.now self.now word line.now }
     {
         match word {
             LineWord::Var => None,
-            LineWord::Set => self.unknown_behind(text, line),
-            LineWord::Rate => self.unknown_behind(text, line),
-            _ => {
-                let names = &self.names[..self.declared];
-                first_undeclared(text, names, line)
-            }
+            LineWord::Set | LineWord::Rate => self.unknown_behind(text, line),
+            _ => first_undeclared(text, self.names(text).places, line),
         }
     }
 
     // The same on a line whose field 2 has to be a name.
     fn unknown_behind(&self, text: &[u8], line: &[Entry]) -> Option<usize>
-        requires { Kept self.now }
         ensures { result ≡ unknown_behind text.now self.now line.now }
     {
         if self.variable(text, second(line)).is_none() {
             return Some(2);
         }
-        let names = &self.names[..self.declared];
-        first_undeclared(text, names, line)
+        first_undeclared(text, self.names(text).places, line)
     }
 
     // Behind a line of this word: whether it is in a stretch, and which variables have a rate there.
@@ -189,9 +181,7 @@ impl Past {
         line: usize,
         variable: Option<usize>,
     ) -> Result<Past, Refusal>
-        requires { Kept self }
-        ensures answer { result ≡ after_rate self word line «variable» }
-        ensures kept { IfOk result Kept }
+        ensures { result ≡ after_rate self word line «variable» }
     {
         match word {
             LineWord::Rate => self.rate(line, variable),
@@ -208,77 +198,66 @@ impl Past {
     }
 
     // 12: the line above is neither run nor rate, or a rate line of the run has the same variable.
-    fn rate(self, line: usize, variable: Option<usize>) -> Result<Past, Refusal>
-        requires { Kept self }
-        ensures answer { result ≡ rate_on self line «variable» }
-        ensures kept { IfOk result Kept }
+    fn rate(mut self, line: usize, variable: Option<usize>) -> Result<Past, Refusal>
+        ensures { result ≡ rate_on self line «variable» }
     {
-        let Some(x) = variable else {
-            return Err(refuse(Reason::RateOutOfPlace, line, 2));
-        };
-        if x >= 16 || !self.stretch || self.rated[x] {
-            return Err(refuse(Reason::RateOutOfPlace, line, 2));
+        match variable {
+            Some(x) if x < 16 && self.stretch && !self.rated[x] => {
+                self.rated[x] = true;
+                Ok(self)
+            }
+            _ => Err(Refusal::new(Reason::RateOutOfPlace, line, 2)),
         }
-        let mut rated = self.rated;
-        rated[x] = true;
-        Ok(Past { rated, ..self })
+    }
+
+    // The innermost open block; a blank one, where none is open.
+    pub fn innermost(&self) -> Block
+        ensures { result ≡ innermost self.now }
+    {
+        self.blocks
+            .get(self.depth.saturating_sub(1))
+            .copied()
+            .unwrap_or(Block::NONE)
     }
 
     // 13: a ninth block would be open.
-    fn open(self, line: usize, elseless: bool) -> Result<Past, Refusal>
-        requires { Kept self }
-        ensures answer { result ≡ opened self line elseless }
-        ensures kept { IfOk result Kept }
+    fn open(mut self, line: usize, elseless: bool) -> Result<Past, Refusal>
+        ensures { result ≡ opened self line elseless }
     {
         if self.depth >= 8 {
-            return Err(refuse(Reason::Blocks, line, 0));
+            return Err(Refusal::new(Reason::Blocks, line, 0));
         }
-        let mut blocks = self.blocks;
-        blocks[self.depth] = Block { line, elseless };
-        Ok(Past {
-            depth: self.depth + 1,
-            blocks,
-            ..self
-        })
+        self.blocks[self.depth] = Block { line, elseless };
+        self.depth += 1;
+        Ok(self)
     }
 
     // 13: an else has no block to serve.
-    fn serve(self, line: usize) -> Result<Past, Refusal>
-        requires { Kept self }
-        ensures answer { result ≡ served self line }
-        ensures kept { IfOk result Kept }
+    fn serve(mut self, line: usize) -> Result<Past, Refusal>
+        ensures { result ≡ served self line }
     {
-        if self.depth == 0 || !self.blocks[self.depth - 1].elseless {
-            return Err(refuse(Reason::Blocks, line, 0));
+        let last = self.depth.wrapping_sub(1);
+        if last >= 8 || !self.blocks[last].elseless {
+            return Err(Refusal::new(Reason::Blocks, line, 0));
         }
-        let mut blocks = self.blocks;
-        blocks[self.depth - 1] = Block {
-            line: self.blocks[self.depth - 1].line,
-            elseless: false,
-        };
-        Ok(Past { blocks, ..self })
+        self.blocks[last].elseless = false;
+        Ok(self)
     }
 
     // 13: an end has no block to close.
-    fn close(self, line: usize) -> Result<Past, Refusal>
-        requires { Kept self }
-        ensures answer { result ≡ closed self line }
-        ensures kept { IfOk result Kept }
+    fn close(mut self, line: usize) -> Result<Past, Refusal>
+        ensures { result ≡ closed self line }
     {
         if self.depth == 0 {
-            return Err(refuse(Reason::Blocks, line, 0));
+            return Err(Refusal::new(Reason::Blocks, line, 0));
         }
-        Ok(Past {
-            depth: self.depth - 1,
-            ..self
-        })
+        self.depth -= 1;
+        Ok(self)
     }
 
     // Behind a line of this word: which blocks are open.
     fn after_block(self, word: LineWord, line: usize) -> Result<Past, Refusal>
-        requires { Kept self }
-        ensures answer { result ≡ after_block self word line }
-        ensures kept { IfOk result Kept }
+        ensures { result ≡ after_block self word line }
     {
         match word {
             LineWord::If => self.open(line, true),
@@ -297,8 +276,7 @@ fn items_wrong(word: LineWord, line: &[Entry]) -> bool
     match word {
         LineWord::Set => !items_give(behind(line, 2), Sort::Number),
         LineWord::Run => !items_give(behind(line, 1), Sort::Number),
-        LineWord::If => !items_give(behind(line, 1), Sort::Truth),
-        LineWord::While => !items_give(behind(line, 1), Sort::Truth),
+        LineWord::If | LineWord::While => !items_give(behind(line, 1), Sort::Truth),
         _ => false,
     }
 }
@@ -311,9 +289,7 @@ fn check_by<K: Kind>(
     number: usize,
     line: &[Entry],
 ) -> Result<Past, Refusal>
-    requires { Kept past }
-    ensures answer { result ≡ line_by K.Kind.means K.Kind.code text.now past word number line.now }
-    ensures kept { IfOk result Kept }
+    ensures { result ≡ line_by K.Kind.means K.Kind.code text.now past word number line.now }
 {
     let named = past.after_var(text, word, number, second(line))?;
     refuse_at(
@@ -330,9 +306,8 @@ fn check_by<K: Kind>(
 
 // The same of a line, by its first field.
 fn check_line<K: Kind>(text: &[u8], past: Past, line: &[Entry]) -> Result<Past, Refusal>
-    requires { (Kept past) × (0 < length line.now) }
-    ensures answer { result ≡ line_check K.Kind.means K.Kind.code text.now past line.now }
-    ensures kept { IfOk result Kept }
+    requires { 0 < length line.now }
+    ensures { result ≡ line_check K.Kind.means K.Kind.code text.now past line.now }
 {
     let head = first(line);
     check_by::<K>(text, past, word_of(head.token), head.place.line, line)
@@ -340,15 +315,11 @@ fn check_line<K: Kind>(text: &[u8], past: Past, line: &[Entry]) -> Result<Past, 
 
 // What is known behind all lines, or the first condition that one of them meets.
 pub fn check_lines<K: Kind>(text: &[u8], table: &[Entry]) -> Result<Past, Refusal>
-    ensures answer { result ≡ lines_check K.Kind.means K.Kind.code text.now at_first (lines table.now) }
-    ensures kept { IfOk result Kept }
+    ensures { result ≡ lines_check K.Kind.means K.Kind.code text.now at_first (lines table.now) }
 {
     let mut past = Past::FIRST;
-    let mut at: usize = 0;
-    while at < table.len() {
-        let to = line_end(table, at);
-        past = check_line::<K>(text, past, &table[at..to])?;
-        at = to;
+    for line in Lines(table) {
+        past = check_line::<K>(text, past, line)?;
     }
     Ok(past)
 }

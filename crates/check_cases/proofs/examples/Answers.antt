@@ -5,9 +5,9 @@ use Rattle.number.specs.Frac.{naught, norm}
 use Rattle.script.specs.Reading.{entries}
 use Rattle.kinds.specs.Fractions.{made, frac_of, pair_of}
 use Rattle.kinds.specs.Thousandths.{thousand_of, counted, count_of}
-use Rattle.checker.specs.declared.refusals.Refusal.{Refusal}
+use Rattle.checker.specs.Refusals.{Refusal}
 use Rattle.checker.specs.declared.refusals.Reason.TheVariants.{OtherTable, VarOutOfPlace, NameNotDeclared, NumberNotHeld, RateOutOfPlace, Blocks, Items, Chains}
-use Rattle.checker.specs.Refusals.{refused}
+use Rattle.refusal.specs.Refusals.{refused}
 use Rattle.checker.specs.Verdict.{Refused}
 use Rattle.checker.specs.Checking.{check_of}
 use Rattle.checker.proofs.Verdict.{judged}

@@ -1,5 +1,5 @@
-use Rattle.checker.proofs.LaidOver.{laid}
+use Rattle.checker.proofs.Sound.{sound, laid_out}
 use Rattle.checker.proofs.checking.scripts_laid.Goals as goal
 
 pub returns : goal.returns
-returns g c = laid c.args.script.now g.K.Kind.means g.K.Kind.code
+returns g c = record { sound = sound c.args.script.now; laid = laid_out c.args.script.now }

@@ -1,7 +1,6 @@
 use Rattle.std.proofs.Common.{◌≡◌, ◌≤◌, map, length, take}
 use Rattle.entries.specs.declared.rows.Row.{Row}
-use Rattle.checker.specs.Jumps.{run_word}
 use Rattle.checker.proofs.jumps.find_words.Given as goal
 
 abbrev pub invariant-loop-i : goal.invariant-loop-i
-invariant-loop-i l = (256 ≤ length l.of) × (take l.i l.of ≡ map (λ (x : Row). run_word x.word) (take l.i l.rows))
+invariant-loop-i l = (256 ≤ length l.words) × (take l.i l.words ≡ map (λ (x : Row). x.word) (take l.i l.rows))

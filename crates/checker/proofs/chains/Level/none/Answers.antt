@@ -1,5 +1,5 @@
 use Rattle.checker.proofs.Marked.{none_there}
-use Rattle.checker.proofs.chains.unmarked.Goals as goal
+use Rattle.checker.proofs.chains.Level.none.Goals as goal
 
 pub returns : goal.returns
 returns c = none_there 256
