@@ -14,9 +14,9 @@ use Rattle.motion.specs.Pairs.{numbers_of}
 use Rattle.motion.specs.Rules.{Standing}
 use Rattle.motion.specs.Fitting as F
 use Rattle.record.specs.declared.Bench.{Bench}
-use Rattle.record.specs.declared.Refusal.{Refusal}
+use Rattle.record.specs.Refusals.{Refusal}
 use Rattle.record.specs.declared.Reason.TheVariants.{BufferTooShort}
-use Rattle.record.specs.Refusals.{refused}
+use Rattle.refusal.specs.Refusals.{refused}
 use Rattle.record.specs.Benches.{bench_of}
 use Rattle.handover.specs.Lines.{line_of, copied}
 use Rattle.handover.specs.Takes.{taken_up}

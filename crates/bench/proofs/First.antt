@@ -9,6 +9,7 @@ use Rattle.script.specs.declared.tokens.Token.{Token}
 use Rattle.script.specs.declared.tokens.Token.TheVariants as token
 use Rattle.script.specs.declared.numbers.Number.{Number}
 use Rattle.script.specs.declared.reading.Entry.{Entry}
+use Rattle.number.specs.declared.Kind.{Ghosts}
 use Rattle.number.specs.declared.Pair.{Pair}
 use Rattle.number.specs.declared.Fault.TheVariants.{NotHeld}
 use Rattle.number.specs.Frac.{Frac, norm, whole}
@@ -20,7 +21,7 @@ use Rattle.motion.specs.Pairs.{Meant}
 use Rattle.entries.specs.declared.rows.Row.{Row}
 use Rattle.entries.specs.Fields.{not_held, is_err}
 use Rattle.entries.specs.Decoding.{frac_of_number, coefficient_of, value_of, part, line_by, row_line, rows_lines}
-use Rattle.checker.specs.declared.checking.Checked.{Checked}
+use Rattle.checker.specs.declared.scripts.Checked.{Checked}
 use Rattle.checker.specs.Scripts.{table_in, places_in, rows_in, lines_in, Sound}
 use Rattle.checker.proofs.LaidOver.{laid}
 use Rattle.bench.specs.Built.{or_nothing, held_pair, first_values, value_in}
@@ -49,7 +50,7 @@ declared_few (else_line ∷ ls) = omega arith
 declared_few (while_line x ∷ ls) = omega arith
 declared_few (end_line ∷ ls) = omega arith
 
-module _ (es : List Entry) (xs : List ℕ) where
+module _ (es : List Entry) (xs : List (Option ℕ)) where
   -- the declared values are those of the rows that stand first
   pub declared_rows : (rows : List Row) → declared (rows_lines es xs rows) ≡ map (λ (r : Row). value_of (part r.from r.to es)) (take (length (declared (rows_lines es xs rows))) rows)
   declared_rows [] = refl
@@ -72,7 +73,7 @@ map_map f g [] = refl
 map_map f g (x ∷ xs) = ap (λ l. f (g x) ∷ l) (map_map f g xs)
 
 -- the first values are those of the rows that stand first
-pub first_of_rows : (code : Frac → Option Pair) (es : List Entry) (xs : List ℕ) (rows : List Row) (n : ℕ) → n ≡ length (declared (rows_lines es xs rows)) →
+pub first_of_rows : (code : Frac → Option Pair) (es : List Entry) (xs : List (Option ℕ)) (rows : List Row) (n : ℕ) → n ≡ length (declared (rows_lines es xs rows)) →
     map (value_in code es) (take n rows) ≡ first_values code (rows_lines es xs rows)
 first_of_rows code es xs rows n e =
     ap (λ (k : ℕ). map (value_in code es) (take k rows)) e
@@ -124,7 +125,7 @@ module _ (means : Pair → Option Frac) (code : Frac → Option Pair) (laws : Ho
   each_held [] h = nil
   each_held (q ∷ qs) h = cons h.0 (each_held qs h.1)
 
-  module _ (es : List Entry) (xs : List ℕ) (numbers : AllByRecursion (λ e. not_held means code e.token ≡ false) es) where
+  module _ (es : List Entry) (xs : List (Option ℕ)) (numbers : AllByRecursion (λ e. not_held means code e.token ≡ false) es) where
     declared_held : (rows : List Row) → AllByRecursion Held (declared (rows_lines es xs rows))
     declared_held [] = tt
     declared_held (r ∷ rows) = by r.word (declared_held rows)
@@ -144,7 +145,7 @@ module _ (means : Pair → Option Frac) (code : Frac → Option Pair) (laws : Ho
     first_held rows = each_held (declared (rows_lines es xs rows)) (declared_held rows)
 
 -- of a script that passed
-module _ {X : Type 0} (s : Checked X) (means : Pair → Option Frac) (code : Frac → Option Pair) (h : Sound s means code) where
+module _ {X : Type 0} {K : Ghosts X} (s : Checked X K) (means : Pair → Option Frac) (code : Frac → Option Pair) (h : Sound s means code) where
   -- its variables are the declared values
   pub variables_declared : s.plan.past.declared ≡ length (declared (lines_in s))
   variables_declared = h.found.variables ∙ sym (ap (λ (ls : List Line). length (declared ls)) h.good.rows)

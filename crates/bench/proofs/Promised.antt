@@ -1,5 +1,6 @@
 -- The law of an advance, as it is called. Assumes nothing.
 use Rattle.std.proofs.Common.{◌≡◌, ℕ, Bool, true, false, cond, List, Option, sym, refl, subst, arith}
+use Rattle.number.specs.declared.Kind.{Ghosts}
 use Rattle.number.specs.declared.Pair.{Pair}
 use Rattle.number.specs.Frac.{Frac}
 use Rattle.number.specs.Kind.{Holds}
@@ -19,7 +20,7 @@ use Rattle.motion.proofs.Lasting.{persist, numbers_agree}
 use Rattle.motion.proofs.Refusals.{refusals_told}
 use Rattle.record.specs.declared.Bench.{Bench}
 use Rattle.record.specs.Benches.{bench_of}
-use Rattle.checker.specs.declared.checking.Checked.{Checked}
+use Rattle.checker.specs.declared.scripts.Checked.{Checked}
 use Rattle.checker.specs.Scripts.{lines_in, Sound}
 use Rattle.bench.specs.Built.{first_values}
 use Rattle.bench.specs.Calls.{fitting, advanced}
@@ -82,7 +83,7 @@ module _ (means : Pair → Option Frac) (code : Frac → Option Pair) (laws : Ho
       by false h = let n : 18 ≡ k = numbers_agree h in absurd (omega (arith, n, low))
 
 -- of a script that passed
-module _ {X : Type 0} (s : Checked X) (means : Pair → Option Frac) (code : Frac → Option Pair) (laws : Holds means code) (h : Sound s means code) where
+module _ {X : Type 0} {K : Ghosts X} (s : Checked X K) (means : Pair → Option Frac) (code : Frac → Option Pair) (laws : Holds means code) (h : Sound s means code) where
   pub spelled : ProgramOf (lines_in s) h.good.program
   spelled = subst (λ (ls : List Line). ProgramOf ls h.good.program) (sym h.good.rows) h.good.spelled
 

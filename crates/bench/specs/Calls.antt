@@ -11,9 +11,9 @@ use Rattle.motion.specs.NextLine.{declared}
 use Rattle.motion.specs.Machine as M
 use Rattle.motion.specs.Fitting as F
 use Rattle.record.specs.declared.Bench.{Bench}
-use Rattle.record.specs.declared.Refusal.{Refusal}
+use Rattle.record.specs.Refusals.{Refusal, number_of}
 use Rattle.record.specs.declared.Reason.TheVariants.{NotFitting, NameNotDeclared, BufferTooShort}
-use Rattle.record.specs.Refusals.{number_of, refused}
+use Rattle.refusal.specs.Refusals.{refused}
 use Rattle.record.specs.Benches.{pairs_of, bench_of}
 
 -- the word run

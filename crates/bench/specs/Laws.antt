@@ -13,7 +13,7 @@ use Rattle.motion.specs.OneAdvance.{Stands, Lawful}
 use Rattle.motion.specs.Refusals.{Answers}
 use Rattle.motion.specs.Fitting as F
 use Rattle.record.specs.declared.Bench.{Bench}
-use Rattle.record.specs.declared.Refusal.{Refusal}
+use Rattle.record.specs.Refusals.{Refusal}
 use Rattle.record.specs.Benches.{bench_of}
 use Rattle.handover.specs.Lines.{line_of}
 use Rattle.handover.specs.Takes.{taken_up}

@@ -5,7 +5,7 @@ ghost use Rattle.motion.specs.NextLine.{declared};
 ghost use Rattle.motion.specs.Carriers.{Each};
 ghost use Rattle.motion.specs.Pairs.{Meant};
 ghost use Rattle.entries.specs.Decoding.{part, value_of, coefficient_of};
-ghost use Rattle.checker.specs.Scripts.{table_in, rows_in, lines_in, Sound};
+ghost use Rattle.checker.specs.Scripts.{table_in, rows_in, lines_in};
 ghost use Rattle.record.specs.Benches.{pairs_of, bench_of};
 ghost use Rattle.bench.specs.Built.{held_pair, first_values, value_in};
 
@@ -20,11 +20,7 @@ use stretch::coefficient;
 fn first_token(fields: &[Entry]) -> Token
     ensures { coefficient_of result ≡ value_of fields.now }
 {
-    if fields.len() > 0 {
-        fields[0].token
-    } else {
-        Token::Other
-    }
+    fields.first().map_or(Token::Other, |entry| entry.token)
 }
 
 // The kind's pair of the value that a var line declares.
@@ -32,10 +28,7 @@ fn first_value<K: Kind>(table: &[Entry], row: Row) -> Pair
     ensures { result ≡ value_in K.Kind.code table.now row }
 {
     let token = first_token(between(table, row.from, row.to));
-    match coefficient::<K>(token) {
-        Some(pair) => pair,
-        None => Pair { a: 0, b: 0 },
-    }
+    coefficient::<K>(token).unwrap_or(Pair { a: 0, b: 0 })
 }
 
 // The pairs of the values that these var lines declare.
@@ -44,29 +37,24 @@ fn first_pairs<K: Kind>(table: &[Entry], rows: &[Row]) -> [Pair; 16]
     ensures { take (length rows.now) result ≡ map (value_in K.Kind.code table.now) rows.now }
 {
     let mut pairs = [Pair { a: 0, b: 0 }; 16];
-    for i in 0..rows.len() {
-        pairs[i] = first_value::<K>(table, rows[i]);
+    for (i, row) in rows.iter().enumerate() {
+        pairs[i] = first_value::<K>(table, *row);
     }
     pairs
 }
 
 // The rows of the variables: at most 16.
-fn var_rows<'s, K>(script: &'s Checked<K>) -> &'s [Row]
-    ensures rows { script.now.plan.past.declared ≤ 16 → result.now ≡ take script.now.plan.past.declared (rows_in script.now) }
+fn var_rows<'s, K: Kind>(script: &'s Checked<K>) -> &'s [Row]
+    ensures rows { result.now ≡ take script.now.plan.past.declared (rows_in script.now) }
     ensures few { length result.now ≤ 16 }
 {
-    let variables = script.variables();
-    if variables > 16 {
-        between(script.rows(), 0, 0)
-    } else {
-        between(script.rows(), 0, variables)
-    }
+    between(script.rows(), 0, script.variables())
 }
 
 // A new bench: on the first line that is not var, with the declared values and no ticks.
 pub fn build<K: Kind>(script: &Checked<K>) -> Bench
-    ensures new { Sound script.now K.Kind.means K.Kind.code → bench_of result ≡ new (lines_in script.now) (first_values K.Kind.code (lines_in script.now)) }
-    ensures held { Sound script.now K.Kind.means K.Kind.code → Each (Meant K.Kind.means) (declared (lines_in script.now)) (pairs_of result.values) }
+    ensures new { bench_of result ≡ new (lines_in script.now) (first_values K.Kind.code (lines_in script.now)) }
+    ensures held { Each (Meant K.Kind.means) (declared (lines_in script.now)) (pairs_of result.values) }
     ensures few { result.values.count ≤ 16 }
 {
     let rows = var_rows(script);

@@ -2,19 +2,17 @@
 ghost use Rattle.std.specs.Prelude.{◌≡◌, ℕ, ◌≤◌, List, IfOk, if◌then◌else◌};
 ghost use Rattle.motion.specs.Lines.{Line};
 ghost use Rattle.motion.specs.Rules.{Standing, Curve};
-ghost use Rattle.motion.specs.Items.{nth};
 ghost use Rattle.motion.specs.Pairs.{numbers_of};
-ghost use Rattle.checker.specs.Scripts.{lines_in, variable_in, Sound};
+ghost use Rattle.checker.specs.Scripts.{lines_in, variable_in};
 ghost use Rattle.record.specs.Benches.{pairs_of, bench_of};
 ghost use Rattle.handover.specs.Lines.{line_of, copied};
 ghost use Rattle.handover.specs.Takes.{taken_up, plainly};
 ghost use Rattle.handover.specs.Laws.{Takes};
-ghost use Rattle.bench.specs.Calls.{fitting, told, advanced, kept_if_refused, unfit, read_value, read_variable, joint_of, written, settled};
+ghost use Rattle.bench.specs.Calls.{fitting, told, advanced, kept_if_refused, unfit, value_in_terms, read_variable, joint_of, written, settled};
 ghost use Rattle.bench.specs.Laws.{OnCurve, AdvancesOnCurve, AdvanceTold, Lasts, ReadsCurve, WrittenBack, TakenExactly, JointOnCurve};
 
 use crate::fitting::fits;
 use checker::Checked;
-use entries::between;
 use handover::{take_line, write_line};
 use number::{Kind, Pair};
 use record::{Bench, Reason, Refusal, refuse};
@@ -27,7 +25,7 @@ fn advance_by<K: Kind>(
     ticks: u32,
     allowance: u32,
 ) -> Result<(u32, u32), Refusal>
-    ensures answer { Sound script.now K.Kind.means K.Kind.code → told result bench.new ≡ advanced (numbers_of K.Kind.means K.Kind.code) (lines_in script.now) bench.old ticks allowance }
+    ensures answer { told result bench.new ≡ advanced (numbers_of K.Kind.means K.Kind.code) (lines_in script.now) bench.old ticks allowance }
     ensures kept { kept_if_refused result bench.old bench.new }
     ensures count { bench.new.values.count ≡ bench.old.values.count }
 {
@@ -47,27 +45,21 @@ pub fn advance<K: Kind>(
     ticks: u32,
     allowance: u32,
 ) -> Result<(u32, u32), Refusal>
-    ensures answer { Sound script.now K.Kind.means K.Kind.code → told result bench.new ≡ advanced (numbers_of K.Kind.means K.Kind.code) (lines_in script.now) bench.old ticks allowance }
+    ensures answer { told result bench.new ≡ advanced (numbers_of K.Kind.means K.Kind.code) (lines_in script.now) bench.old ticks allowance }
     ensures kept { kept_if_refused result bench.old bench.new }
     ensures count { bench.new.values.count ≡ bench.old.values.count }
-    ensures curve { Sound script.now K.Kind.means K.Kind.code → AdvancesOnCurve K.Kind.means K.Kind.code (lines_in script.now) bench.old ticks allowance (told result bench.new) }
-    ensures reasons { Sound script.now K.Kind.means K.Kind.code → AdvanceTold K.Kind.means K.Kind.code (lines_in script.now) bench.old ticks allowance (told result bench.new) }
-    ensures lasting { Sound script.now K.Kind.means K.Kind.code → Lasts K.Kind.means K.Kind.code (lines_in script.now) bench.old ticks allowance (told result bench.new) }
+    ensures curve { AdvancesOnCurve K.Kind.means K.Kind.code (lines_in script.now) bench.old ticks allowance (told result bench.new) }
+    ensures reasons { AdvanceTold K.Kind.means K.Kind.code (lines_in script.now) bench.old ticks allowance (told result bench.new) }
+    ensures lasting { Lasts K.Kind.means K.Kind.code (lines_in script.now) bench.old ticks allowance (told result bench.new) }
 {
     advance_by::<K>(script, bench, ticks, allowance)
 }
 
-// The value at a place in lowest terms, if there is one.
-fn read_value<K: Kind>(values: &[Pair], x: usize) -> Result<(i64, i64), Refusal>
-    ensures { result ≡ read_value K.Kind.means values.now (nth values.now x) }
+// A value in lowest terms.
+fn terms_of<K: Kind>(value: Pair) -> Result<(i64, i64), Refusal>
+    ensures { result ≡ value_in_terms (K.Kind.means value) }
 {
-    if x >= values.len() {
-        return Err(refuse(Reason::NameNotDeclared, 0, 0));
-    }
-    match K::terms(values[x]) {
-        Ok(terms) => Ok(terms),
-        Err(_) => Err(refuse(Reason::NotFitting, 0, 0)),
-    }
+    K::terms(value).map_err(|_| refuse(Reason::NotFitting, 0, 0))
 }
 
 // The value of a variable in lowest terms, if the name is declared.
@@ -78,8 +70,8 @@ fn read_name<K: Kind>(
 ) -> Result<(i64, i64), Refusal>
     ensures { result ≡ read_variable K.Kind.means values.now (variable_in script.now name.now) }
 {
-    match script.variable(name) {
-        Some(x) => read_value::<K>(values, x),
+    match script.variable(name).and_then(|x| values.get(x).copied()) {
+        Some(value) => terms_of::<K>(value),
         None => Err(refuse(Reason::NameNotDeclared, 0, 0)),
     }
 }
@@ -90,12 +82,12 @@ fn read_bench<K: Kind>(
     bench: &Bench,
     name: &[u8],
 ) -> Result<(i64, i64), Refusal>
-    ensures { Sound script.now K.Kind.means K.Kind.code → result ≡ (if fitting (numbers_of K.Kind.means K.Kind.code) (lines_in script.now) bench.now then read_variable K.Kind.means (pairs_of bench.now.values) (variable_in script.now name.now) else unfit) }
+    ensures { result ≡ (if fitting (numbers_of K.Kind.means K.Kind.code) (lines_in script.now) bench.now then read_variable K.Kind.means (pairs_of bench.now.values) (variable_in script.now name.now) else unfit) }
 {
     if !fits::<K>(script, bench) {
         return Err(refuse(Reason::NotFitting, 0, 0));
     }
-    let values = between(&bench.values.pairs, 0, bench.values.count);
+    let values = bench.values.as_slice();
     read_name::<K>(script, values, name)
 }
 
@@ -105,8 +97,8 @@ pub fn reading<K: Kind>(
     bench: &Bench,
     name: &[u8],
 ) -> Result<(i64, i64), Refusal>
-    ensures answer { Sound script.now K.Kind.means K.Kind.code → result ≡ (if fitting (numbers_of K.Kind.means K.Kind.code) (lines_in script.now) bench.now then read_variable K.Kind.means (pairs_of bench.now.values) (variable_in script.now name.now) else unfit) }
-    ensures curve { (T : ℕ) → Sound script.now K.Kind.means K.Kind.code → OnCurve K.Kind.means K.Kind.code (lines_in script.now) T (bench_of bench.now) → ReadsCurve K.Kind.means K.Kind.code (lines_in script.now) T (variable_in script.now name.now) result }
+    ensures answer { result ≡ (if fitting (numbers_of K.Kind.means K.Kind.code) (lines_in script.now) bench.now then read_variable K.Kind.means (pairs_of bench.now.values) (variable_in script.now name.now) else unfit) }
+    ensures curve { (T : ℕ) → OnCurve K.Kind.means K.Kind.code (lines_in script.now) T (bench_of bench.now) → ReadsCurve K.Kind.means K.Kind.code (lines_in script.now) T (variable_in script.now name.now) result }
 {
     read_bench::<K>(script, bench, name)
 }
@@ -116,11 +108,7 @@ pub fn next_joint(bench: &Bench) -> Option<u32>
     ensures answer { result ≡ joint_of bench.now.left }
     ensures curve { (script : List Line) (T : ℕ) (s : Standing) → Curve script T s → s.left ≡ bench.now.left → JointOnCurve result s.left }
 {
-    if bench.left > 0 {
-        Some(bench.left)
-    } else {
-        None
-    }
+    (bench.left > 0).then_some(bench.left)
 }
 
 // The line of the bench, written to the front of the buffer.
@@ -129,8 +117,8 @@ fn write_bench<K: Kind>(
     bench: &Bench,
     buffer: &mut [u8],
 ) -> Result<usize, Refusal>
-    ensures answer { Sound script.now K.Kind.means K.Kind.code → result ≡ (if fitting (numbers_of K.Kind.means K.Kind.code) (lines_in script.now) bench.now then written (line_of K.Kind.means (bench_of bench.now)) buffer.old else unfit) }
-    ensures bytes { Sound script.now K.Kind.means K.Kind.code → buffer.new ≡ (if fitting (numbers_of K.Kind.means K.Kind.code) (lines_in script.now) bench.now then copied (line_of K.Kind.means (bench_of bench.now)) buffer.old else buffer.old) }
+    ensures answer { result ≡ (if fitting (numbers_of K.Kind.means K.Kind.code) (lines_in script.now) bench.now then written (line_of K.Kind.means (bench_of bench.now)) buffer.old else unfit) }
+    ensures bytes { buffer.new ≡ (if fitting (numbers_of K.Kind.means K.Kind.code) (lines_in script.now) bench.now then copied (line_of K.Kind.means (bench_of bench.now)) buffer.old else buffer.old) }
 {
     if !fits::<K>(script, bench) {
         return Err(refuse(Reason::NotFitting, 0, 0));
@@ -147,9 +135,9 @@ pub fn write<K: Kind>(
     bench: &Bench,
     buffer: &mut [u8],
 ) -> Result<usize, Refusal>
-    ensures answer { Sound script.now K.Kind.means K.Kind.code → result ≡ (if fitting (numbers_of K.Kind.means K.Kind.code) (lines_in script.now) bench.now then written (line_of K.Kind.means (bench_of bench.now)) buffer.old else unfit) }
-    ensures bytes { Sound script.now K.Kind.means K.Kind.code → buffer.new ≡ (if fitting (numbers_of K.Kind.means K.Kind.code) (lines_in script.now) bench.now then copied (line_of K.Kind.means (bench_of bench.now)) buffer.old else buffer.old) }
-    ensures back { Sound script.now K.Kind.means K.Kind.code → WrittenBack K.Kind.means K.Kind.code (lines_in script.now) bench.now result buffer.new }
+    ensures answer { result ≡ (if fitting (numbers_of K.Kind.means K.Kind.code) (lines_in script.now) bench.now then written (line_of K.Kind.means (bench_of bench.now)) buffer.old else unfit) }
+    ensures bytes { buffer.new ≡ (if fitting (numbers_of K.Kind.means K.Kind.code) (lines_in script.now) bench.now then copied (line_of K.Kind.means (bench_of bench.now)) buffer.old else buffer.old) }
+    ensures back { WrittenBack K.Kind.means K.Kind.code (lines_in script.now) bench.now result buffer.new }
 {
     write_bench::<K>(script, bench, buffer)
 }
@@ -157,7 +145,7 @@ pub fn write<K: Kind>(
 // The bench of a line, if it fits the script.
 fn take_bench<K: Kind>(script: &Checked<K>, line: &[u8]) -> Result<Bench, Refusal>
     ensures few { IfOk result (λ b. b.values.count ≤ 16) }
-    ensures answer { Sound script.now K.Kind.means K.Kind.code → plainly result ≡ settled (numbers_of K.Kind.means K.Kind.code) (lines_in script.now) (taken_up K.Kind.means K.Kind.code line.now) }
+    ensures answer { plainly result ≡ settled (numbers_of K.Kind.means K.Kind.code) (lines_in script.now) (taken_up K.Kind.means K.Kind.code line.now) }
 {
     let bench = take_line::<K>(line)?;
     if fits::<K>(script, &bench) {
@@ -169,9 +157,9 @@ fn take_bench<K: Kind>(script: &Checked<K>, line: &[u8]) -> Result<Bench, Refusa
 
 // Takes a bench up from a line.
 pub fn take_up<K: Kind>(script: &Checked<K>, line: &[u8]) -> Result<Bench, Refusal>
-    ensures answer { Sound script.now K.Kind.means K.Kind.code → plainly result ≡ settled (numbers_of K.Kind.means K.Kind.code) (lines_in script.now) (taken_up K.Kind.means K.Kind.code line.now) }
+    ensures answer { plainly result ≡ settled (numbers_of K.Kind.means K.Kind.code) (lines_in script.now) (taken_up K.Kind.means K.Kind.code line.now) }
     ensures few { IfOk result (λ b. b.values.count ≤ 16) }
-    ensures exactly { Sound script.now K.Kind.means K.Kind.code → TakenExactly K.Kind.means K.Kind.code (lines_in script.now) line.now (plainly result) }
+    ensures exactly { TakenExactly K.Kind.means K.Kind.code (lines_in script.now) line.now (plainly result) }
     ensures takes { Takes K.Kind.means K.Kind.code line.now (taken_up K.Kind.means K.Kind.code line.now) }
 {
     take_bench::<K>(script, line)

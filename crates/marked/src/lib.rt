@@ -6,7 +6,7 @@ ghost use Rattle.marked.specs.Texts.{text_a, text_b, text_c, text_d};
 ghost use Rattle.marked.specs.Runs.{MarkedFromText};
 
 // The texts of the four scripts.
-#[derive(Clone, Copy)]
+#[derive(Clone, Copy, PartialEq, Eq, Debug)]
 pub struct Texts {
     pub a: &'static [u8],
     pub b: &'static [u8],

@@ -5,8 +5,9 @@ use Rattle.motion.specs.Numbers.{Numbers, Divided, quot, by_zero, not_held}
 use Rattle.motion.specs.Lines.{Line, Item, number, name, calculate, combine, negate, Calculation, add, sub, mul, div, lt, le}
 use Rattle.motion.specs.Items.{Got, good, bad, bind, Value, num, truth, nth, number_at, quotient_at, truth_at, two_numbers, two_truths, one_truth, wait, calculated, item, items, as_number, as_truth, number_of, truth_of}
 use Rattle.motion.specs.Machine.{fail, assigned, started, chosen}
-use Rattle.record.specs.declared.Refusal.{Refusal}
+use Rattle.record.specs.Refusals.{Refusal}
 use Rattle.record.specs.Refusals as R
+use Rattle.refusal.specs.Refusals.{refused}
 use Rattle.postfix.specs.Located.{located}
 use Rattle.running.specs.Steps.{seen_step}
 
@@ -91,10 +92,10 @@ module _ {V : Type 0} where
 
 -- a step whose items are at fault
 module _ (all : List Line) (env : List Pair) (t n : ℕ) (e : Refusal) where
-  fault : (k f : ℕ) → R.number_of (R.reason_of k) ≡ k → e ≡ R.refused (R.reason_of k) n f → seen_step (Err e) ≡ fail k n f
+  fault : (k f : ℕ) → R.number_of (R.reason_of k) ≡ k → e ≡ refused (R.reason_of k) n f → seen_step (Err e) ≡ fail k n f
   fault k f h p = ap (λ (x : Refusal). seen_step (Err x)) p ∙ ap (λ (i : ℕ). fail i n f) h
 
-  told : {A : Type 0} (k f : ℕ) → ◌≡◌ {A = Result A Refusal} (Err e) (Err (R.refused (R.reason_of k) n f)) → e ≡ R.refused (R.reason_of k) n f
+  told : {A : Type 0} (k f : ℕ) → ◌≡◌ {A = Result A Refusal} (Err e) (Err (refused (R.reason_of k) n f)) → e ≡ refused (R.reason_of k) n f
   told k f q = cc
 
   set_at_fault : (x : ℕ) (r : Got Pair) → Known r → Err e ≡ located n r → seen_step (Err e) ≡ assigned all env t n x r

@@ -17,7 +17,7 @@ use Rattle.entries.specs.declared.rows.Row.{Row}
 use Rattle.entries.specs.Decoding.{part, row_line, rows_lines}
 
 -- the lines of rows
-module _ (es : List Entry) (xs : List ℕ) (rows : List Row) where
+module _ (es : List Entry) (xs : List (Option ℕ)) (rows : List Row) where
   pub lines_long : length (rows_lines es xs rows) ≡ length rows
   lines_long = length-map rows (row_line es xs)
 

@@ -6,13 +6,24 @@ use Rattle.motion.specs.Lines.{Line}
 use Rattle.motion.specs.NextLine.{line_at}
 use Rattle.motion.specs.Machine as M
 use Rattle.record.specs.declared.Bench.{Bench}
-use Rattle.record.specs.declared.Refusal.{Refusal}
-use Rattle.record.specs.Refusals.{number_of}
+use Rattle.record.specs.Refusals.{Refusal, number_of}
 use Rattle.record.specs.Benches.{pairs_of, bench_of}
+use Rattle.entries.specs.Decoding.{line_by}
+use Rattle.running.specs.declared.runs.Statement.{Statement}
 use Rattle.running.specs.declared.lines.Standing.{Standing}
 use Rattle.running.specs.declared.lines.Standing.TheVariants as s
 use Rattle.running.specs.declared.steps.Outcome.{Outcome}
 use Rattle.running.specs.declared.steps.Outcome.TheVariants as o
+
+-- the line on which a run stands, and 0 at the end
+abbrev pub standing_line : Standing → ℕ
+standing_line (s.At n) = n
+standing_line (s.Inside n d) = n
+standing_line s.Ended = 0
+
+-- the line that a statement is
+abbrev pub statement_line : Statement → Line
+statement_line a = line_by a.word a.name a.items.entries.now a.items.variables.now
 
 -- the place at which a run stands
 abbrev pub seen_place : Standing → M.Place

@@ -3,6 +3,7 @@
 
 mod lines;
 mod run;
+mod runs;
 mod steps;
 
 pub use run::{end_line, run_on};

@@ -2,88 +2,79 @@
 ghost use Rattle.std.specs.Prelude.{◌≡◌, ℕ, suc, ◌≤◌, Bool, length, IfOk};
 ghost use Rattle.motion.specs.Pairs.{numbers_of};
 ghost use Rattle.motion.specs.Machine.{loop as loop_meaning, place_of, advance};
-ghost use Rattle.checker.specs.Scripts.{lines_in, Laid};
+ghost use Rattle.checker.specs.Scripts.{lines_in};
 ghost use Rattle.record.specs.Benches.{pairs_of, bench_of};
 ghost use Rattle.running.specs.Steps.{seen_place, is_ended, seen_answer};
 
 use crate::lines::{Standing, next_line, standing_at};
-use crate::steps::{Outcome, step};
+use crate::runs::Run;
+use crate::steps::Outcome;
 use checker::Checked;
 use number::Kind;
-use record::{Bench, Reason, Refusal, Values, refuse};
-
-// The largest count of ticks.
-const MOST: u32 = 2147483647;
+use record::{Bench, MOST_TICKS, Reason, Refusal, refuse};
 
 fn is_ended(standing: Standing) -> bool
     ensures { result ≡ is_ended (seen_place standing) }
 {
-    match standing {
-        Standing::At(_) => false,
-        Standing::Inside(_, _) => false,
-        Standing::Ended => true,
-    }
+    matches!(standing, Standing::Ended)
+}
+
+// One past the last line.
+pub fn end_line<K: Kind>(script: &Checked<K>) -> u32
+    ensures { result ≡ suc (length (lines_in script.now)) }
+{
+    script.rows().len() as u32 + 1
 }
 
 // What a run comes to that may make no step more: its end, or the refusal at the statement that is next.
 fn finish<K: Kind>(
-    script: &Checked<K>,
-    values: Values,
-    t: u32,
-    standing: Standing,
+    run: &Run<'_, '_, '_, K>,
     total: u32,
     steps: u32,
 ) -> Result<(u32, Bench), Refusal>
-    ensures answer { Laid script.now → seen_answer result ≡ loop_meaning (numbers_of K.Kind.means K.Kind.code) (lines_in script.now) total 0 steps (pairs_of values) t (seen_place standing) }
-    ensures count { IfOk result (λ p. p.1.values.count ≡ values.count) }
+    ensures answer { seen_answer result ≡ loop_meaning (numbers_of K.Kind.means K.Kind.code) (lines_in run.now.script.now) total 0 steps (pairs_of run.now.values) run.now.ticks (seen_place run.now.standing) }
+    ensures count { IfOk result (λ p. p.1.values.count ≡ run.now.values.count) }
 {
-    match standing {
+    match run.standing {
         Standing::Ended => Ok((
             steps,
             Bench {
-                line: end_line(script),
+                line: end_line(run.script),
                 left: 0,
                 total,
-                over: t,
-                values,
+                over: run.ticks,
+                values: run.values,
             },
         )),
-        Standing::At(n) => Err(refuse(Reason::StepsUsedUp, n, 0)),
-        Standing::Inside(n, _) => Err(refuse(Reason::StepsUsedUp, n, 0)),
+        Standing::At(n) | Standing::Inside(n, _) => Err(refuse(Reason::StepsUsedUp, n, 0)),
     }
 }
 
-// One past the last line.
-pub fn end_line<K>(script: &Checked<K>) -> u32
-    ensures { Laid script.now → result ≡ suc (length (lines_in script.now)) }
-{
-    let lines = script.rows().len();
-    if lines <= 256 { lines as u32 + 1 } else { 257 }
-}
-
-// A run of at most `allowance` steps, with `ticks` to go.
-fn run<K: Kind>(
-    script: &Checked<K>,
-    start: Values,
-    ticks: u32,
-    from: Standing,
+// A run of at most `allowance` steps.
+fn run_from<K: Kind>(
+    start: &Run<'_, '_, '_, K>,
     total: u32,
     allowance: u32,
 ) -> Result<(u32, Bench), Refusal>
-    requires { start.count ≤ 16 }
-    ensures answer { Laid script.now → seen_answer result ≡ loop_meaning (numbers_of K.Kind.means K.Kind.code) (lines_in script.now) total allowance 0 (pairs_of start) ticks (seen_place from) }
-    ensures count { IfOk result (λ p. p.1.values.count ≡ start.count) }
+    ensures answer { seen_answer result ≡ loop_meaning (numbers_of K.Kind.means K.Kind.code) (lines_in start.now.script.now) total allowance 0 (pairs_of start.now.values) start.now.ticks (seen_place start.now.standing) }
+    ensures count { IfOk result (λ p. p.1.values.count ≡ start.now.values.count) }
 {
-    let mut values = start;
-    let mut t = ticks;
-    let mut standing = from;
+    let script = start.script;
+    let mut values = start.values;
+    let mut ticks = start.ticks;
+    let mut standing = start.standing;
     for i in 0..allowance {
+        let run = Run {
+            script,
+            values,
+            ticks,
+            standing,
+        };
         if is_ended(standing) {
-            return finish::<K>(script, values, t, standing, total, i);
+            return finish(&run, total, i);
         }
-        let outcome = step::<K>(script, &values, t, standing)?;
-        match outcome {
-            Outcome::Stop(line, left, after) => {
+        match run.step()? {
+            Outcome::Stop(line, left, values) => {
                 return Ok((
                     i + 1,
                     Bench {
@@ -91,23 +82,29 @@ fn run<K: Kind>(
                         left,
                         total,
                         over: 0,
-                        values: after,
+                        values,
                     },
                 ));
             }
             Outcome::Go(line, after, rest) => {
                 values = after;
-                t = rest;
+                ticks = rest;
                 standing = standing_at(script, line);
             }
         }
     }
-    finish::<K>(script, values, t, standing, total, allowance)
+    let run = Run {
+        script,
+        values,
+        ticks,
+        standing,
+    };
+    finish(&run, total, allowance)
 }
 
 // Where a bench stands.
-fn standing_of<K>(script: &Checked<K>, bench: &Bench) -> Standing
-    ensures { Laid script.now → seen_place result ≡ place_of (lines_in script.now) (bench_of bench.now) }
+fn standing_of<K: Kind>(script: &Checked<K>, bench: &Bench) -> Standing
+    ensures { seen_place result ≡ place_of (lines_in script.now) (bench_of bench.now) }
 {
     if bench.left > 0 {
         Standing::Inside(bench.line, bench.left)
@@ -125,22 +122,21 @@ pub fn run_on<K: Kind>(
     ticks: u32,
     allowance: u32,
 ) -> Result<(u32, Bench), Refusal>
-    ensures answer { Laid script.now → bench.now.values.count ≤ 16 → bench.now.over ≤ 2147483647 → seen_answer result ≡ advance (numbers_of K.Kind.means K.Kind.code) (lines_in script.now) (bench_of bench.now) ticks allowance }
+    ensures answer { bench.now.values.count ≤ 16 → bench.now.over ≤ 2147483647 → seen_answer result ≡ advance (numbers_of K.Kind.means K.Kind.code) (lines_in script.now) (bench_of bench.now) ticks allowance }
     ensures count { IfOk result (λ p. p.1.values.count ≡ bench.now.values.count) }
 {
-    if bench.values.count > 16 || bench.over > MOST {
+    if bench.values.count > 16 || bench.over > MOST_TICKS {
         return Err(refuse(Reason::NotFitting, 0, 0));
     }
     let total = bench.total as u64 + ticks as u64;
-    if total > MOST as u64 {
+    if total > MOST_TICKS as u64 {
         return Err(refuse(Reason::TooManyTicks, 0, 0));
     }
-    run::<K>(
+    let run = Run {
         script,
-        bench.values,
-        bench.over + ticks,
-        standing_of(script, bench),
-        total as u32,
-        allowance,
-    )
+        values: bench.values,
+        ticks: bench.over + ticks,
+        standing: standing_of(script, bench),
+    };
+    run_from(&run, total as u32, allowance)
 }

@@ -1,18 +1,16 @@
 // One step of a run, chosen by where it stands, the word of its line and the ticks to go.
-ghost use Rattle.std.specs.Prelude.{◌≡◌, ℕ, ◌-◌, ◌<◌, ◌≤◌, drop, set, IfOk, Err, slice_set};
-ghost use Rattle.motion.specs.NextLine.{rates, line_at};
-ghost use Rattle.motion.specs.Pairs.{numbers_of};
-ghost use Rattle.motion.specs.Items.{number_of, truth_of};
-ghost use Rattle.motion.specs.Flow.{flow};
-ghost use Rattle.motion.specs.Machine.{at, cut, whole_run, stretch, assigned, started, chosen};
-ghost use Rattle.entries.specs.Decoding.{part, items_of, row_line};
-ghost use Rattle.checker.specs.Scripts.{table_in, places_in, lines_in, Laid};
+ghost use Rattle.std.specs.Prelude.{◌≡◌, ℕ, ◌-◌, ◌≤◌, Err, slice_set};
+ghost use Rattle.motion.specs.NextLine.{line_at};
+ghost use Rattle.motion.specs.Machine.{at};
+ghost use Rattle.entries.specs.Decoding.{or_none, row_line};
+ghost use Rattle.checker.specs.Scripts.{table_in, places_in, lines_in};
 ghost use Rattle.record.specs.declared.Reason.TheVariants.{NoStatement};
-ghost use Rattle.record.specs.Refusals.{refused};
+ghost use Rattle.refusal.specs.Refusals.{refused};
 ghost use Rattle.record.specs.Benches.{pairs_of};
-ghost use Rattle.running.specs.Steps.{seen_place, seen_step, Keeps, turn_of};
+ghost use Rattle.running.specs.Steps.{seen_place, statement_line};
 
-use crate::lines::{Standing, flow_in, next_line, number_in, past_line, ticks_of, truth_in};
+use crate::lines::{Standing, next_line, past_line, ticks_of};
+use crate::runs::{Run, Statement};
 use checker::Checked;
 use entries::Row;
 use number::{Kind, Pair};
@@ -33,132 +31,30 @@ fn no_statement() -> Result<Outcome, Refusal>
     Err(refuse(Reason::NoStatement, 0, 0))
 }
 
-// A stretch with `left` ticks left that is cut, with t to go.
-fn cut_short<K: Kind>(
-    script: &Checked<K>,
-    values: &Values,
-    t: u32,
-    n: u32,
-    left: u32,
-) -> Result<Outcome, Refusal>
-    requires { (values.now.count ≤ 16) × (t < left) }
-    ensures step { seen_step result ≡ cut n (left - t) (flow (numbers_of K.Kind.means K.Kind.code) (rates (drop n (lines_in script.now))) (pairs_of values.now) t) }
-    ensures kept { IfOk result (Keeps values.now.count) }
+// The index of a variable; past them all, where there is none.
+fn index_of(place: Option<u8>) -> usize
+    ensures { result ≡ or_none place }
 {
-    match flow_in::<K>(script, values, n, t) {
-        Some(after) => Ok(Outcome::Stop(n, left - t, after)),
-        None => Err(refuse(Reason::NotHeldWhereCut, n, 0)),
-    }
+    place.unwrap_or(16) as usize
 }
 
-// A stretch with `left` ticks left that is run to its end, with t to go.
-fn run_through<K: Kind>(
-    script: &Checked<K>,
-    values: &Values,
-    t: u32,
-    n: u32,
-    left: u32,
-) -> Result<Outcome, Refusal>
-    requires { (values.now.count ≤ 16) × (left ≤ t) }
-    ensures step { Laid script.now → seen_step result ≡ whole_run (lines_in script.now) n (t - left) (flow (numbers_of K.Kind.means K.Kind.code) (rates (drop n (lines_in script.now))) (pairs_of values.now) left) }
-    ensures kept { IfOk result (Keeps values.now.count) }
-{
-    match flow_in::<K>(script, values, n, left) {
-        Some(after) => Ok(Outcome::Go(next_line(script, n), after, t - left)),
-        None => Err(refuse(Reason::NotHeld, n, 0)),
-    }
-}
-
-// A stretch of d ticks on line n, with t to go.
-fn pass<K: Kind>(
-    script: &Checked<K>,
-    values: &Values,
-    t: u32,
-    n: u32,
-    d: u32,
-) -> Result<Outcome, Refusal>
-    requires { values.now.count ≤ 16 }
-    ensures step { Laid script.now → seen_step result ≡ stretch (numbers_of K.Kind.means K.Kind.code) (lines_in script.now) (pairs_of values.now) t n d }
-    ensures kept { IfOk result (Keeps values.now.count) }
-{
-    if t < d {
-        cut_short::<K>(script, values, t, n, d)
-    } else {
-        run_through::<K>(script, values, t, n, d)
-    }
-}
-
-// The values with that of the variable x set to q.
-fn store(values: Values, x: u8, q: Pair) -> Values
-    ensures stored { pairs_of result ≡ slice_set (pairs_of values) x q }
+// The values with that of the variable at this place set to q.
+fn store(values: Values, place: Option<u8>, q: Pair) -> Values
+    ensures stored { pairs_of result ≡ slice_set (pairs_of values) (or_none place) q }
     ensures count { result.count ≡ values.count }
 {
     let mut pairs = values.pairs;
+    let x = index_of(place);
     if x < 16 {
-        pairs[x as usize] = q;
+        pairs[x] = q;
     }
-    Values {
-        count: values.count,
-        pairs,
-    }
-}
-
-// The set line n, whose row this is.
-fn assign<K: Kind>(
-    script: &Checked<K>,
-    values: &Values,
-    t: u32,
-    n: u32,
-    row: Row,
-) -> Result<Outcome, Refusal>
-    ensures step { Laid script.now → row.to - row.from ≤ 18 → seen_step result ≡ assigned (lines_in script.now) (pairs_of values.now) t n row.name (number_of (numbers_of K.Kind.means K.Kind.code) (pairs_of values.now) 3 (items_of (part row.from row.to (table_in script.now)) (part row.from row.to (places_in script.now)))) }
-    ensures kept { IfOk result (Keeps values.now.count) }
-{
-    let q = number_in::<K>(script, values, row, n, 3)?;
-    Ok(Outcome::Go(next_line(script, n), store(*values, row.name, q), t))
-}
-
-// The run line n, whose row this is.
-fn start<K: Kind>(
-    script: &Checked<K>,
-    values: &Values,
-    t: u32,
-    n: u32,
-    row: Row,
-) -> Result<Outcome, Refusal>
-    requires { values.now.count ≤ 16 }
-    ensures step { Laid script.now → row.to - row.from ≤ 18 → seen_step result ≡ started (numbers_of K.Kind.means K.Kind.code) (lines_in script.now) (pairs_of values.now) t n (number_of (numbers_of K.Kind.means K.Kind.code) (pairs_of values.now) 2 (items_of (part row.from row.to (table_in script.now)) (part row.from row.to (places_in script.now)))) }
-    ensures kept { IfOk result (Keeps values.now.count) }
-{
-    let q = number_in::<K>(script, values, row, n, 2)?;
-    match ticks_of::<K>(q) {
-        Some(d) => pass::<K>(script, values, t, n, d),
-        None => Err(refuse(Reason::NoDuration, n, 0)),
-    }
-}
-
-// The if or while line n, whose row this is.
-fn choose<K: Kind>(
-    script: &Checked<K>,
-    values: &Values,
-    t: u32,
-    n: u32,
-    row: Row,
-) -> Result<Outcome, Refusal>
-    ensures step { Laid script.now → row.to - row.from ≤ 18 → seen_step result ≡ chosen (lines_in script.now) (pairs_of values.now) t n (truth_of (numbers_of K.Kind.means K.Kind.code) (pairs_of values.now) 2 (items_of (part row.from row.to (table_in script.now)) (part row.from row.to (places_in script.now)))) }
-    ensures kept { IfOk result (Keeps values.now.count) }
-{
-    let holds = truth_in::<K>(script, values, row, n, 2)?;
-    if holds {
-        Ok(Outcome::Go(next_line(script, n), *values, t))
-    } else {
-        Ok(Outcome::Go(past_line(script, n), *values, t))
-    }
+    Values { pairs, ..values }
 }
 
 // The row of line n; that of an end, where there is no such line.
-pub fn row_at<K>(script: &Checked<K>, n: u32) -> Row
-    ensures { Laid script.now → (row_line (table_in script.now) (places_in script.now) result ≡ line_at (lines_in script.now) n) × (result.to - result.from ≤ 18) }
+pub fn row_at<K: Kind>(script: &Checked<K>, n: u32) -> Row
+    ensures line { row_line (table_in script.now) (places_in script.now) result ≡ line_at (lines_in script.now) n }
+    ensures short { result.to - result.from ≤ 18 }
 {
     let rows = script.rows();
     if n >= 1 && n as usize <= rows.len() {
@@ -166,43 +62,121 @@ pub fn row_at<K>(script: &Checked<K>, n: u32) -> Row
     } else {
         Row {
             word: LineWord::End,
-            name: 16,
+            name: None,
             from: 0,
             to: 0,
         }
     }
 }
 
-// The row of the line on which a run stands.
-fn row_of<K>(script: &Checked<K>, standing: Standing) -> Row
-    ensures { (n : ℕ) → seen_place standing ≡ at n → Laid script.now → (row_line (table_in script.now) (places_in script.now) result ≡ line_at (lines_in script.now) n) × (result.to - result.from ≤ 18) }
+// The statement of line n; that of an end, where there is no such line.
+fn statement_at<'s, K: Kind>(script: &'s Checked<'_, '_, K>, n: u32) -> Statement<'s>
+    ensures number { result.line ≡ n }
+    ensures line { statement_line result ≡ line_at (lines_in script.now) n }
 {
-    match standing {
-        Standing::At(n) => row_at(script, n),
-        Standing::Inside(n, _) => row_at(script, n),
-        Standing::Ended => row_at(script, 0),
+    let row = row_at(script, n);
+    Statement {
+        line: n,
+        word: row.word,
+        name: row.name,
+        items: script.resolved().between(row.from, row.to),
     }
 }
 
-// The next step.
-pub fn step<K: Kind>(
-    script: &Checked<K>,
-    values: &Values,
-    t: u32,
-    standing: Standing,
-) -> Result<Outcome, Refusal>
-    requires { values.now.count ≤ 16 }
-    ensures step { Laid script.now → seen_step result ≡ turn_of (numbers_of K.Kind.means K.Kind.code) (lines_in script.now) (pairs_of values.now) t (seen_place standing) }
-    ensures kept { IfOk result (Keeps values.now.count) }
-{
-    let row = row_of(script, standing);
-    match (standing, row.word) {
-        (Standing::Inside(n, left), _) if t < left => cut_short::<K>(script, values, t, n, left),
-        (Standing::Inside(n, left), _) => run_through::<K>(script, values, t, n, left),
-        (Standing::At(n), LineWord::Set) => assign::<K>(script, values, t, n, row),
-        (Standing::At(n), LineWord::Run) => start::<K>(script, values, t, n, row),
-        (Standing::At(n), LineWord::If | LineWord::While) => choose::<K>(script, values, t, n, row),
-        (Standing::At(_), _) => no_statement(),
-        (Standing::Ended, _) => no_statement(),
+impl<K: Kind> Run<'_, '_, '_, K> {
+    ghost use Rattle.std.specs.Prelude.{◌<◌, drop, IfOk};
+    ghost use Rattle.motion.specs.NextLine.{rates};
+    ghost use Rattle.motion.specs.Pairs.{numbers_of};
+    ghost use Rattle.motion.specs.Items.{number_of, truth_of};
+    ghost use Rattle.motion.specs.Flow.{flow};
+    ghost use Rattle.motion.specs.Machine.{cut, whole_run, stretch, assigned, started, chosen};
+    ghost use Rattle.entries.specs.Decoding.{items_in};
+    ghost use Rattle.running.specs.Steps.{seen_step, Keeps, turn_of};
+
+    // A stretch on line n with `left` ticks left that is cut.
+    fn cut_short(&self, n: u32, left: u32) -> Result<Outcome, Refusal>
+        requires { self.now.ticks < left }
+        ensures step { seen_step result ≡ cut n (left - self.now.ticks) (flow (numbers_of K.Kind.means K.Kind.code) (rates (drop n (lines_in self.now.script.now))) (pairs_of self.now.values) self.now.ticks) }
+        ensures kept { IfOk result (Keeps self.now.values.count) }
+    {
+        match self.flow(n, self.ticks) {
+            Some(after) => Ok(Outcome::Stop(n, left - self.ticks, after)),
+            None => Err(refuse(Reason::NotHeldWhereCut, n, 0)),
+        }
+    }
+
+    // A stretch on line n with `left` ticks left that is run to its end.
+    fn run_through(&self, n: u32, left: u32) -> Result<Outcome, Refusal>
+        requires { left ≤ self.now.ticks }
+        ensures step { seen_step result ≡ whole_run (lines_in self.now.script.now) n (self.now.ticks - left) (flow (numbers_of K.Kind.means K.Kind.code) (rates (drop n (lines_in self.now.script.now))) (pairs_of self.now.values) left) }
+        ensures kept { IfOk result (Keeps self.now.values.count) }
+    {
+        match self.flow(n, left) {
+            Some(after) => Ok(Outcome::Go(next_line(self.script, n), after, self.ticks - left)),
+            None => Err(refuse(Reason::NotHeld, n, 0)),
+        }
+    }
+
+    // A stretch of d ticks on line n.
+    fn pass(&self, n: u32, d: u32) -> Result<Outcome, Refusal>
+        ensures step { seen_step result ≡ stretch (numbers_of K.Kind.means K.Kind.code) (lines_in self.now.script.now) (pairs_of self.now.values) self.now.ticks n d }
+        ensures kept { IfOk result (Keeps self.now.values.count) }
+    {
+        if self.ticks < d {
+            self.cut_short(n, d)
+        } else {
+            self.run_through(n, d)
+        }
+    }
+
+    // A set line.
+    fn assign(&self, statement: &Statement<'_>) -> Result<Outcome, Refusal>
+        ensures step { seen_step result ≡ assigned (lines_in self.now.script.now) (pairs_of self.now.values) self.now.ticks statement.now.line (or_none statement.now.name) (number_of (numbers_of K.Kind.means K.Kind.code) (pairs_of self.now.values) 3 (items_in statement.now.items)) }
+        ensures kept { IfOk result (Keeps self.now.values.count) }
+    {
+        let q = self.number(statement, 3)?;
+        let after = store(self.values, statement.name, q);
+        Ok(Outcome::Go(next_line(self.script, statement.line), after, self.ticks))
+    }
+
+    // A run line.
+    fn start(&self, statement: &Statement<'_>) -> Result<Outcome, Refusal>
+        ensures step { seen_step result ≡ started (numbers_of K.Kind.means K.Kind.code) (lines_in self.now.script.now) (pairs_of self.now.values) self.now.ticks statement.now.line (number_of (numbers_of K.Kind.means K.Kind.code) (pairs_of self.now.values) 2 (items_in statement.now.items)) }
+        ensures kept { IfOk result (Keeps self.now.values.count) }
+    {
+        let q = self.number(statement, 2)?;
+        match ticks_of::<K>(q) {
+            Some(d) => self.pass(statement.line, d),
+            None => Err(refuse(Reason::NoDuration, statement.line, 0)),
+        }
+    }
+
+    // An if or while line.
+    fn choose(&self, statement: &Statement<'_>) -> Result<Outcome, Refusal>
+        ensures step { seen_step result ≡ chosen (lines_in self.now.script.now) (pairs_of self.now.values) self.now.ticks statement.now.line (truth_of (numbers_of K.Kind.means K.Kind.code) (pairs_of self.now.values) 2 (items_in statement.now.items)) }
+        ensures kept { IfOk result (Keeps self.now.values.count) }
+    {
+        let next = if self.truth(statement, 2)? {
+            next_line(self.script, statement.line)
+        } else {
+            past_line(self.script, statement.line)
+        };
+        Ok(Outcome::Go(next, self.values, self.ticks))
+    }
+
+    // The next step.
+    pub fn step(&self) -> Result<Outcome, Refusal>
+        ensures step { seen_step result ≡ turn_of (numbers_of K.Kind.means K.Kind.code) (lines_in self.now.script.now) (pairs_of self.now.values) self.now.ticks (seen_place self.now.standing) }
+        ensures kept { IfOk result (Keeps self.now.values.count) }
+    {
+        let statement = statement_at(self.script, self.standing.line());
+        match (self.standing, statement.word) {
+            (Standing::Inside(n, left), _) if self.ticks < left => self.cut_short(n, left),
+            (Standing::Inside(n, left), _) => self.run_through(n, left),
+            (Standing::At(_), LineWord::Set) => self.assign(&statement),
+            (Standing::At(_), LineWord::Run) => self.start(&statement),
+            (Standing::At(_), LineWord::If | LineWord::While) => self.choose(&statement),
+            (Standing::At(_) | Standing::Ended, _) => no_statement(),
+        }
     }
 }

@@ -1,7 +1,8 @@
 -- Calls one after the other. Assumes nothing.
-use Rattle.std.proofs.Common.{◌≡◌, ℕ, zero, suc, ◌<◌, false, List, [], ◌∷◌, ◌++◌, map, length, get_or, set, Option, sym, refl, ap, ◌∙◌, subst, arith}
+use Rattle.std.proofs.Common.{◌≡◌, ℕ, zero, suc, ◌<◌, false, List, [], ◌∷◌, ◌++◌, map, length, get_or, set, Option, Result, sym, refl, ap, ◌∙◌, subst, arith}
 use Rattle.script.specs.declared.reading.Entry.{Entry}
 use Rattle.script.specs.declared.places.Place.{Place}
+use Rattle.number.specs.declared.Kind.{Ghosts}
 use Rattle.number.specs.declared.Pair.{Pair}
 use Rattle.number.specs.Frac.{Frac}
 use Rattle.number.specs.Kind.{Holds}
@@ -16,13 +17,14 @@ use Rattle.motion.specs.Machine as M
 use Rattle.motion.specs.Pairs.{Meant}
 use Rattle.entries.specs.Fields.{lines, find}
 use Rattle.entries.specs.Decoding.{names_of, script_of}
-use Rattle.checker.specs.declared.checking.Checked.{Checked}
+use Rattle.checker.specs.declared.scripts.Checked.{Checked}
 use Rattle.checker.specs.Scripts.{text_in, lines_in, variable_in, Sound}
 use Rattle.bench.specs.Built.{first_values}
 use Rattle.bench.proofs.First.{values_held}
 use Rattle.bench.proofs.Promised.{spelled}
 use Rattle.series.specs.declared.calls.Call.{Call}
-use Rattle.series.specs.declared.calls.Reply.{Reply}
+use Rattle.record.specs.Refusals.{Refusal}
+use Rattle.series.specs.declared.calls.Answer.{Answer}
 use Rattle.series.specs.declared.calls.Step.{Step}
 use Rattle.series.specs.Series.{call_in, step, Replies, none, more, After, Performed}
 use Rattle.series.specs.Promise.{script_in, variable_of, Promise}
@@ -47,7 +49,7 @@ module _ (means : Pair → Option Frac) (code : Frac → Option Pair) (script : 
 
   -- and one more
   pub performed_more : Holds means code → (p : Prog) → ProgramOf script p → Shallows p → Each (Meant means) (declared script) (first_values code script) →
-      (us : List Step) (b c : M.Bench Pair) (call : Call) (reply : Reply) → Performed means code script place us b → Replies means code script place b call reply c → Performed means code script place (us ++ (step call reply ∷ [])) c
+      (us : List Step) (b c : M.Bench Pair) (call : Call) (reply : Result Answer Refusal) → Performed means code script place us b → Replies means code script place b call reply c → Performed means code script place (us ++ (step call reply ∷ [])) c
   performed_more laws p spells shallow each us b c call reply h r = record {
     held = each;
     sum = _;
@@ -57,8 +59,8 @@ module _ (means : Pair → Option Frac) (code : Frac → Option Pair) (script : 
   }
 
 -- of a script that passed
-module _ {X : Type 0} (s : Checked X) (means : Pair → Option Frac) (code : Frac → Option Pair) (laws : Holds means code) (h : Sound s means code) where
-  pub sound_more : (us : List Step) (b c : M.Bench Pair) (call : Call) (reply : Reply) → Performed means code (lines_in s) (variable_in s) us b → Replies means code (lines_in s) (variable_in s) b call reply c →
+module _ {X : Type 0} {K : Ghosts X} (s : Checked X K) (means : Pair → Option Frac) (code : Frac → Option Pair) (laws : Holds means code) (h : Sound s means code) where
+  pub sound_more : (us : List Step) (b c : M.Bench Pair) (call : Call) (reply : Result Answer Refusal) → Performed means code (lines_in s) (variable_in s) us b → Replies means code (lines_in s) (variable_in s) b call reply c →
       Performed means code (lines_in s) (variable_in s) (us ++ (step call reply ∷ [])) c
   sound_more us b c call reply k r = performed_more means code (lines_in s) (variable_in s) laws h.good.program (spelled s means code laws h) h.good.smooth (values_held s means code h laws) us b c call reply k r
 

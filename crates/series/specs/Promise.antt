@@ -1,7 +1,7 @@
 -- The promise of any list of calls on a bench that is built on a text. Assumes nothing.
 use Rattle.std.specs.Prelude.{◌≡◌, ℕ, List, length, Ok, Err, Option, Result}
 use Rattle.script.specs.declared.reading.Entry.{Entry}
-use Rattle.script.specs.declared.refusals.Refusal as reader
+use Rattle.script.specs.Refusals as reader
 use Rattle.script.specs.Reading.{entries, filled, read_of}
 use Rattle.number.specs.declared.Pair.{Pair}
 use Rattle.number.specs.Frac.{Frac}
@@ -10,11 +10,11 @@ use Rattle.motion.specs.Machine as M
 use Rattle.motion.specs.Promise.{Alike}
 use Rattle.entries.specs.Fields.{lines, find}
 use Rattle.entries.specs.Decoding.{names_of, script_of}
-use Rattle.checker.specs.declared.refusals.Refusal.{Refusal}
+use Rattle.checker.specs.Refusals.{Refusal}
 use Rattle.checker.specs.Checking.{check_of}
 use Rattle.series.specs.declared.calls.Step.{Step}
-use Rattle.series.specs.declared.performing.Refused.{Refused}
-use Rattle.series.specs.declared.performing.Refused.TheVariants.{Unread, Unchecked}
+use Rattle.checker.specs.declared.refused.Refused.{Refused}
+use Rattle.checker.specs.declared.refused.Refused.TheVariants.{Unread, Unchecked}
 use Rattle.series.specs.Series.{Performed}
 
 -- the lines of a text

@@ -4,5 +4,6 @@
 mod calls;
 mod performing;
 
-pub use calls::{Call, Name, Reply, Step};
-pub use performing::{Refused, perform, perform_two};
+pub use calls::{Answer, Call, Step};
+pub use checker::Refused;
+pub use performing::{perform, perform_two};

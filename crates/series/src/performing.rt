@@ -1,6 +1,6 @@
 // Any list of calls on a bench that is built on a text.
 ghost use Rattle.std.specs.Prelude.{◌≡◌, ℕ, ◌≤◌, List, map, length, IfOk, MatchResult};
-ghost use Rattle.checker.specs.Scripts.{lines_in, variable_in, Sound};
+ghost use Rattle.checker.specs.Scripts.{lines_in, variable_in};
 ghost use Rattle.record.specs.Benches.{bench_of};
 ghost use Rattle.series.specs.declared.calls.Step.{Step};
 ghost use Rattle.checker.specs.Checking.{check_of};
@@ -9,27 +9,24 @@ ghost use Rattle.series.specs.Promise.{Promise, TwoPromise, check_reply, admitte
 
 use crate::calls::{Step, perform_call};
 use bench::{Bench, build};
-use checker::{Checked, check};
+use checker::{Checked, Refused, check};
 use number::Kind;
 use script::{Draft, Entry, read};
 
-// Why no bench was built: the reader refused the text, or the check refused the script.
-#[derive(Clone, Copy)]
-pub enum Refused {
-    Unread(script::Refusal),
-    Unchecked(checker::Refusal),
-}
-
 // The calls of the list on a new bench, one after the other; each reply is put beside its call.
 fn perform_on<K: Kind>(script: &Checked<K>, steps: &mut [Step]) -> Bench
-    ensures performed { Sound script.now K.Kind.means K.Kind.code → Performed K.Kind.means K.Kind.code (lines_in script.now) (variable_in script.now) steps.new (bench_of result) }
+    ensures performed { Performed K.Kind.means K.Kind.code (lines_in script.now) (variable_in script.now) steps.new (bench_of result) }
     ensures calls { map call_in steps.new ≡ map call_in steps.old }
 {
     let mut bench = build::<K>(script);
+    // by index: a loop over a slice of structs that hold a reference gets no proof yet
     for i in 0..steps.len() {
         let call = steps[i].call;
         let reply = perform_call::<K>(script, &mut bench, call);
-        steps[i] = Step { call, reply };
+        steps[i] = Step {
+            call,
+            reply: Some(reply),
+        };
     }
     bench
 }
@@ -46,7 +43,7 @@ fn perform_draft<'t, 'a, K: Kind>(
 {
     match check::<K>(draft, table) {
         Ok(script) => Ok(perform_on::<K>(&script, steps)),
-        Err((_draft, refusal)) => Err(Refused::Unchecked(refusal)),
+        Err((_draft, refusal)) => Err(refusal.into()),
     }
 }
 
@@ -61,10 +58,8 @@ pub fn perform<K: Kind>(
     ensures promise { MatchResult result (λ b. Promise K.Kind.means K.Kind.code text.now steps.new (bench_of b)) (λ _. steps.new ≡ steps.old) }
     ensures calls { map call_in steps.new ≡ map call_in steps.old }
 {
-    match read(text, table) {
-        Ok(draft) => perform_draft::<K>(draft, table, steps),
-        Err(refusal) => Err(Refused::Unread(refusal)),
-    }
+    let draft = read(text, table)?;
+    perform_draft::<K>(draft, table, steps)
 }
 
 // Two such lists on one text, each on a bench of its own kind.

@@ -2,6 +2,7 @@ use Rattle.std.proofs.Common.{sym, subst}
 use Rattle.checker.specs.Scripts.{lines_in}
 use Rattle.bench.specs.Laws.{AdvancesOnCurve, AdvanceTold, Lasts}
 use Rattle.bench.proofs.Promised.{sound_curve, advance_told, lasts}
+use Rattle.checker.proofs.Sound.{sound}
 use Rattle.bench.proofs.calls.advance.Goals as goal
 
 pub returns : goal.returns
@@ -14,7 +15,7 @@ returns g c =
       answer = c.advance_by.ensures.answer;
       kept = c.advance_by.ensures.kept;
       count = c.advance_by.ensures.count;
-      curve = λ h. subst (AdvancesOnCurve g.K.Kind.means g.K.Kind.code (lines_in s) b t a) (sym (c.advance_by.ensures.answer h)) (sound_curve s g.K.Kind.means g.K.Kind.code g.met.K.Kind.sound h b t a);
-      reasons = λ h. subst (AdvanceTold g.K.Kind.means g.K.Kind.code (lines_in s) b t a) (sym (c.advance_by.ensures.answer h)) (advance_told g.K.Kind.means g.K.Kind.code g.met.K.Kind.sound (lines_in s) b t a);
-      lasting = λ h. subst (Lasts g.K.Kind.means g.K.Kind.code (lines_in s) b t a) (sym (c.advance_by.ensures.answer h)) (lasts g.K.Kind.means g.K.Kind.code g.met.K.Kind.sound (lines_in s) b t a);
+      curve = let h = sound c.args.script.now in subst (AdvancesOnCurve g.K.Kind.means g.K.Kind.code (lines_in s) b t a) (sym (c.advance_by.ensures.answer)) (sound_curve s g.K.Kind.means g.K.Kind.code g.met.K.Kind.sound h b t a);
+      reasons = subst (AdvanceTold g.K.Kind.means g.K.Kind.code (lines_in s) b t a) (sym (c.advance_by.ensures.answer)) (advance_told g.K.Kind.means g.K.Kind.code g.met.K.Kind.sound (lines_in s) b t a);
+      lasting = subst (Lasts g.K.Kind.means g.K.Kind.code (lines_in s) b t a) (sym (c.advance_by.ensures.answer)) (lasts g.K.Kind.means g.K.Kind.code g.met.K.Kind.sound (lines_in s) b t a);
     }

@@ -10,5 +10,5 @@ returns g c =
     let s = c.args.script.now in
     record {
       answer = c.read_bench.ensures;
-      curve = λ T h on. reads g.K.Kind.means g.K.Kind.code (lines_in s) T (bench_of c.args.bench.now) on (variable_in s c.args.name.now) (fitting (numbers_of g.K.Kind.means g.K.Kind.code) (lines_in s) c.args.bench.now) c.read_bench.result (c.read_bench.ensures h);
+      curve = λ T on. reads g.K.Kind.means g.K.Kind.code (lines_in s) T (bench_of c.args.bench.now) on (variable_in s c.args.name.now) (fitting (numbers_of g.K.Kind.means g.K.Kind.code) (lines_in s) c.args.bench.now) c.read_bench.result (c.read_bench.ensures);
     }

@@ -6,12 +6,12 @@ use Rattle.bench.proofs.fitting.are_numbers.Goals as goal
 pub returns-then-not-is_number : goal.returns-then-not-is_number
 returns-then-not-is_number g c =
     let N = numbers_of g.K.Kind.means g.K.Kind.code in
-    sym (c.loop-p.invariant ∙ numbers_turn N c.args.pairs.now c.loop-p.p-index _ c.is_number.result c.loop-p-test.true c.is_number.ensures ∙ and_false _ _ c.if-not-is_number.true)
+    sym (c.loop-pair.invariant ∙ numbers_turn N c.args.pairs.now c.loop-pair.pair-index _ c.is_number.result c.loop-pair-test.true c.is_number.ensures ∙ and_false _ _ c.if-not-is_number.true)
 
-pub loop-p-preserved : goal.loop-p-preserved
-loop-p-preserved g c =
+pub loop-pair-preserved : goal.loop-pair-preserved
+loop-pair-preserved g c =
     let N = numbers_of g.K.Kind.means g.K.Kind.code in
-    c.loop-p.invariant ∙ numbers_turn N c.args.pairs.now c.loop-p.p-index _ c.is_number.result c.loop-p-test.true c.is_number.ensures ∙ and_true _ _ c.if-not-is_number.false
+    c.loop-pair.invariant ∙ numbers_turn N c.args.pairs.now c.loop-pair.pair-index _ c.is_number.result c.loop-pair-test.true c.is_number.ensures ∙ and_true _ _ c.if-not-is_number.false
 
 pub returns : goal.returns
-returns g c = sym (c.loop-p.invariant ∙ numbers_over (numbers_of g.K.Kind.means g.K.Kind.code) c.args.pairs.now c.loop-p.p-index c.loop-p-test.false)
+returns g c = sym (c.loop-pair.invariant ∙ numbers_over (numbers_of g.K.Kind.means g.K.Kind.code) c.args.pairs.now c.loop-pair.pair-index c.loop-pair-test.false)

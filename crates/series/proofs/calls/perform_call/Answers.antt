@@ -1,66 +1,47 @@
-use Rattle.std.proofs.Common.{ℕ, ◌≤◌, cond, List, sym, ap, ◌∙◌, subst}
-use Rattle.motion.specs.Pairs.{numbers_of}
+use Rattle.std.proofs.Common.{Err, sym, refl, ap, ◌∙◌, SFits, w64, rules}
+use Rattle.std.proofs.lemmas.Result.{err_from_is_err_and}
+use Rattle.std.proofs.lemmas.Int.{to_z-of_z}
 use Rattle.checker.specs.Scripts.{lines_in, variable_in}
-use Rattle.record.specs.Benches.{pairs_of, bench_of}
-use Rattle.running.proofs.Lookups.{from_first}
-use Rattle.bench.specs.Calls.{fitting, unfit, read_variable, joint_of}
-use Rattle.series.specs.declared.calls.Call.TheVariants.{Advance, Reading, NextJoint, Write, HandOver}
-use Rattle.series.specs.declared.calls.Reply.TheVariants.{Joint}
-use Rattle.series.specs.Series.{advance_reply, value_reply, size_reply, hand_reply, handed, read_call, write_call, Replies, reads, asks, writes, hands_over}
-use Rattle.series.proofs.Replied.{as_told, advance_replies, read_same}
+use Rattle.record.specs.Benches.{bench_of}
+use Rattle.series.specs.Series.{advance_answer, value_answer, size_answer, hand_answer}
+use Rattle.series.proofs.Replied.{advance_done, reading_done, write_done, hand_done, ask_done}
 use Rattle.series.proofs.calls.perform_call.Goals as goal
 
-pub returns-in-Advance : goal.returns-in-Advance
-returns-in-Advance g c =
-    let s = c.args.script.now in
-    let b = c.args.bench.now in
-    record {
-      replies = λ h few. as_told g.K.Kind.means g.K.Kind.code (lines_in s) (variable_in s) (bench_of b) (bench_of c.advance.new.bench) c.args.call (Advance c.in-Advance.ticks c.in-Advance.allowance) c.advance_reply.result (advance_reply c.advance.result) c.in-Advance.is c.advance_reply.ensures
-          (advance_replies g.K.Kind.means g.K.Kind.code (lines_in s) b few (variable_in s) c.in-Advance.ticks c.in-Advance.allowance c.advance.result c.advance.new.bench (c.advance.ensures.answer h) c.advance.ensures.kept);
-      few = λ few. subst (λ (n : ℕ). n ≤ 16) (sym c.advance.ensures.count) few;
-    }
+pub returns-in_err-steps-in-Advance-clause-replies : goal.returns-in_err-steps-in-Advance-clause-replies
+returns-in_err-steps-in-Advance-clause-replies g c = λ few.
+    let p = err_from_is_err_and c.from_residual.result c.from_residual.ensures.1 in
+    advance_done g.K.Kind.means g.K.Kind.code (lines_in c.args.script.now) (variable_in c.args.script.now) c.args.bench.now few c.advance.result c.advance.new.bench c.in-Advance.is (p.1 ∙ ap Err p.2 ∙ ap advance_answer (sym c.in_err-steps-in-Advance.was)) c.advance.ensures.answer c.advance.ensures.kept
 
-pub returns-in-Reading : goal.returns-in-Reading
-returns-in-Reading g c =
-    let s = c.args.script.now in
-    let b = c.args.bench.now in
-    let name = c.in-Reading.name in
-    record {
-      replies = λ h few. as_told g.K.Kind.means g.K.Kind.code (lines_in s) (variable_in s) (bench_of b) (bench_of b) c.args.call (Reading name) c.value_reply.result (value_reply (read_call g.K.Kind.means g.K.Kind.code (lines_in s) (variable_in s) (bench_of b) name)) c.in-Reading.is
-          (c.value_reply.ensures
-          ∙ ap value_reply (c.reading.ensures.answer h
-          ∙ ap (λ (l : List ℕ). cond (fitting (numbers_of g.K.Kind.means g.K.Kind.code) (lines_in s) b) (read_variable g.K.Kind.means (pairs_of b.values) (variable_in s l)) unfit) (c.between-bytes.ensures ∙ from_first name.length name.bytes)
-          ∙ read_same g.K.Kind.means g.K.Kind.code (lines_in s) b few (variable_in s) name))
-          reads;
-      few = λ few. few;
-    }
+pub returns-in_ok-steps-in-Advance-clause-replies : goal.returns-in_ok-steps-in-Advance-clause-replies
+returns-in_ok-steps-in-Advance-clause-replies g c = λ few.
+    advance_done g.K.Kind.means g.K.Kind.code (lines_in c.args.script.now) (variable_in c.args.script.now) c.args.bench.now few c.advance.result c.advance.new.bench c.in-Advance.is (ap advance_answer (sym c.in_ok-steps-in-Advance.was)) c.advance.ensures.answer c.advance.ensures.kept
 
-pub returns-in-NextJoint : goal.returns-in-NextJoint
-returns-in-NextJoint g c =
-    let s = c.args.script.now in
-    let b = c.args.bench.now in
-    record {
-      replies = λ h few. as_told g.K.Kind.means g.K.Kind.code (lines_in s) (variable_in s) (bench_of b) (bench_of b) c.args.call NextJoint (Joint c.next_joint.result) (Joint (joint_of b.left)) c.in-NextJoint.is (ap Joint c.next_joint.ensures.answer) asks;
-      few = λ few. few;
-    }
+pub returns-in_err-n-in-Reading-clause-replies : goal.returns-in_err-n-in-Reading-clause-replies
+returns-in_err-n-in-Reading-clause-replies g c = λ few.
+    let p = err_from_is_err_and c.from_residual-in_err-n-in-Reading.result c.from_residual-in_err-n-in-Reading.ensures.1 in
+    reading_done g.K.Kind.means g.K.Kind.code (lines_in c.args.script.now) (variable_in c.args.script.now) c.args.bench.now few c.in-Reading.is (p.1 ∙ ap Err p.2 ∙ ap value_answer (sym c.in_err-n-in-Reading.was)) c.reading.ensures.answer
 
-pub returns-in-Write : goal.returns-in-Write
-returns-in-Write g c =
-    let s = c.args.script.now in
-    let b = c.args.bench.now in
-    let room = c.in-Write.room in
-    record {
-      replies = λ h few. as_told g.K.Kind.means g.K.Kind.code (lines_in s) (variable_in s) (bench_of b) (bench_of b) c.args.call (Write room) c.size_reply.result (size_reply (write_call g.K.Kind.means g.K.Kind.code (lines_in s) (bench_of b) room)) c.in-Write.is (c.size_reply.ensures ∙ ap size_reply (c.write_call.ensures h few)) writes;
-      few = λ few. few;
-    }
+pub returns-in_ok-n-in-Reading-clause-replies : goal.returns-in_ok-n-in-Reading-clause-replies
+returns-in_ok-n-in-Reading-clause-replies g c = λ few.
+    reading_done g.K.Kind.means g.K.Kind.code (lines_in c.args.script.now) (variable_in c.args.script.now) c.args.bench.now few c.in-Reading.is (let f : SFits w64 c.in_ok-n-in-Reading.n = search rules in let k : SFits w64 c.in_ok-n-in-Reading.d = search rules in rw (to_z-of_z _ _ f, to_z-of_z _ _ k) (ap value_answer (sym c.in_ok-n-in-Reading.was))) c.reading.ensures.answer
 
-pub returns-in-HandOver : goal.returns-in-HandOver
-returns-in-HandOver g c =
-    let s = c.args.script.now in
-    let b = c.args.bench.now in
-    let room = c.in-HandOver.room in
-    record {
-      replies = λ h few. subst (Replies g.K.Kind.means g.K.Kind.code (lines_in s) (variable_in s) (bench_of b) c.args.call c.hand_reply.result) (sym (c.hand_over.ensures.same h))
-          (as_told g.K.Kind.means g.K.Kind.code (lines_in s) (variable_in s) (bench_of b) (bench_of b) c.args.call (HandOver room) c.hand_reply.result (hand_reply (handed (write_call g.K.Kind.means g.K.Kind.code (lines_in s) (bench_of b) room))) c.in-HandOver.is (c.hand_reply.ensures ∙ ap hand_reply (c.hand_over.ensures.answer h few)) hands_over);
-      few = c.hand_over.ensures.few;
-    }
+pub returns-in-NextJoint-clause-replies : goal.returns-in-NextJoint-clause-replies
+returns-in-NextJoint-clause-replies g c = λ few. ask_done g.K.Kind.means g.K.Kind.code (lines_in c.args.script.now) (variable_in c.args.script.now) c.args.bench.now few c.in-NextJoint.is refl c.next_joint.ensures.answer
+
+pub returns-in_err-size-in-Write-clause-replies : goal.returns-in_err-size-in-Write-clause-replies
+returns-in_err-size-in-Write-clause-replies g c = λ few.
+    let p = err_from_is_err_and c.from_residual-in_err-size-in-Write.result c.from_residual-in_err-size-in-Write.ensures.1 in
+    write_done g.K.Kind.means g.K.Kind.code (lines_in c.args.script.now) (variable_in c.args.script.now) c.args.bench.now few c.in-Write.is (p.1 ∙ ap Err p.2 ∙ ap size_answer (sym c.in_err-size-in-Write.was)) (c.write_call.ensures few)
+
+pub returns-in_ok-size-in-Write-clause-replies : goal.returns-in_ok-size-in-Write-clause-replies
+returns-in_ok-size-in-Write-clause-replies g c = λ few.
+    write_done g.K.Kind.means g.K.Kind.code (lines_in c.args.script.now) (variable_in c.args.script.now) c.args.bench.now few c.in-Write.is (ap size_answer (sym c.in_ok-size-in-Write.was)) (c.write_call.ensures few)
+
+pub returns-in_err-hand_over-in-HandOver-clause-replies : goal.returns-in_err-hand_over-in-HandOver-clause-replies
+returns-in_err-hand_over-in-HandOver-clause-replies g c = λ few.
+    let p = err_from_is_err_and c.from_residual-in_err-hand_over-in-HandOver.result c.from_residual-in_err-hand_over-in-HandOver.ensures.1 in
+    hand_done g.K.Kind.means g.K.Kind.code (lines_in c.args.script.now) (variable_in c.args.script.now) c.args.bench.now few (bench_of c.hand_over.new.bench) c.in-HandOver.is (p.1 ∙ ap Err p.2 ∙ ap hand_answer (sym c.in_err-hand_over-in-HandOver.was)) (c.hand_over.ensures.answer few) c.hand_over.ensures.same
+
+pub returns-in_ok-hand_over-in-HandOver-clause-replies : goal.returns-in_ok-hand_over-in-HandOver-clause-replies
+returns-in_ok-hand_over-in-HandOver-clause-replies g c = λ few.
+    hand_done g.K.Kind.means g.K.Kind.code (lines_in c.args.script.now) (variable_in c.args.script.now) c.args.bench.now few (bench_of c.hand_over.new.bench) c.in-HandOver.is (ap hand_answer (sym c.in_ok-hand_over-in-HandOver.was)) (c.hand_over.ensures.answer few) c.hand_over.ensures.same
