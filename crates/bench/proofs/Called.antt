@@ -69,14 +69,14 @@ module _ (means : Pair → Option Frac) (b : Bench) (old : List ℕ) (can : Writ
   pub wrote : (size : ℕ) (new : List ℕ) → Writes means b old (Some size) new → (Ok size ≡ written line old) × (new ≡ copied line old)
   wrote size new w = by (leb (length line) (length old)) refl
     where
-      by : (x : Bool) → leb (length line) (length old) ≡ x → (Ok size ≡ cond x (Ok (length line)) (Err (refused BufferTooShort 0 0))) × (new ≡ cond x (line ++ drop (length line) old) old)
+      by : (x : Bool) → leb (length line) (length old) ≡ x → (Ok size ≡ cond x (Ok (length line)) (Err (refused {N = ℕ} BufferTooShort 0 0))) × (new ≡ cond x (line ++ drop (length line) old) old)
       by true e = let k = w.whole can (grind (arith, nat_tests)) in let s : size ≡ length line = let q = k.0 in cc in (ap Ok s, k.1)
       by false e = let k = w.too_short can (grind (arith, nat_tests)) in let q = k.0 in let z : ◌≡◌ {A = ℕ} 0 1 = cc in absurd (omega arith)
 
-  pub wrote_none : (new : List ℕ) → Writes means b old None new → (Err (refused BufferTooShort 0 0) ≡ written line old) × (new ≡ copied line old)
+  pub wrote_none : (new : List ℕ) → Writes means b old None new → (Err (refused {N = ℕ} BufferTooShort 0 0) ≡ written line old) × (new ≡ copied line old)
   wrote_none new w = by (leb (length line) (length old)) refl
     where
-      by : (x : Bool) → leb (length line) (length old) ≡ x → (Err (refused BufferTooShort 0 0) ≡ cond x (Ok (length line)) (Err (refused BufferTooShort 0 0))) × (new ≡ cond x (line ++ drop (length line) old) old)
+      by : (x : Bool) → leb (length line) (length old) ≡ x → (Err (refused {N = ℕ} BufferTooShort 0 0) ≡ cond x (Ok (length line)) (Err (refused {N = ℕ} BufferTooShort 0 0))) × (new ≡ cond x (line ++ drop (length line) old) old)
       by true e = let k = w.whole can (grind (arith, nat_tests)) in let q = k.0 in let z : ◌≡◌ {A = ℕ} 0 1 = cc in absurd (omega arith)
       by false e = let k = w.too_short can (grind (arith, nat_tests)) in (refl, k.1)
 
@@ -95,7 +95,7 @@ module _ (means : Pair → Option Frac) (code : Frac → Option Pair) (laws : Ho
       l = line_of means (bench_of b)
 
       by : (x y : Bool) → fitting (numbers_of means code) script b ≡ x → leb (length (line_of means (bench_of b))) (length old) ≡ y →
-          r ≡ cond x (cond y (Ok (length (line_of means (bench_of b)))) (Err (refused BufferTooShort 0 0))) unfit → new ≡ cond x (cond y (line_of means (bench_of b) ++ drop (length (line_of means (bench_of b))) old) old) old →
+          r ≡ cond x (cond y (Ok (length (line_of means (bench_of b)))) (Err (refused {N = ℕ} BufferTooShort 0 0))) unfit → new ≡ cond x (cond y (line_of means (bench_of b) ++ drop (length (line_of means (bench_of b))) old) old) old →
           WrittenBack means code script b r new
       by true true p q e f =
           let w = fits_written means code script few_lines few-values b p in

@@ -4,7 +4,6 @@ ghost use Rattle.std.specs.Prelude.{◌<◌};
 use super::*;
 use check_listing::answers::answer_for;
 use checker::check;
-use refusal::Numbered;
 use script::{Number, Place, Token, read};
 use std::process::Abort;
 

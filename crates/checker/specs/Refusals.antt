@@ -17,4 +17,4 @@ number_of Chains = 15
 
 -- a refusal by one of these reasons
 abbrev pub Refusal : Type 0
-Refusal = r.Refusal Reason
+Refusal = r.Refusal Reason ℕ

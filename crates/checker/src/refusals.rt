@@ -19,12 +19,23 @@ pub enum Reason {
 // A refusal for one of these reasons.
 pub type Refusal = refusal::Refusal<Reason>;
 
+impl Reason {
+    ghost use Rattle.checker.specs.Refusals.{number_of};
+
+    // The number by which a reason is known.
+    pub fn number(self) -> u8
+        ensures { result ≡ number_of self }
+    {
+        self as u8
+    }
+}
+
 impl Numbered for Reason {
     ghost use Rattle.checker.specs.Refusals.{number_of as numbers};
 
     ghost number_of = { numbers };
 
     fn number(self) -> u8 {
-        self as u8
+        Reason::number(self)
     }
 }

@@ -24,7 +24,7 @@ fn hold<K: Kind>(fractions: &[Pair]) -> Result<Values, Refusal>
     let mut pairs = [Pair { a: 0, b: 1 }; 16];
     for (i, fraction) in fractions.iter().enumerate() {
         let held = hold_one::<K>(*fraction);
-        pairs[i] = held.map_err(|_| Refusal::new(Reason::ValueNotHeld, 0, i + 6))?;
+        pairs[i] = held.map_err(|_| Refusal::new(Reason::ValueNotHeld, 0, i as u32 + 6))?;
     }
     Ok(Values {
         count: fractions.len(),

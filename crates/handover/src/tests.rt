@@ -5,7 +5,6 @@ use kinds::small::SmallWholes;
 use kinds::thousandths::Thousandths;
 use number::{Kind, Pair};
 use record::{Bench, Values};
-use refusal::Numbered;
 use std::test::Fail;
 
 // The largest counts, and this value so many times.
@@ -23,7 +22,7 @@ fn bench(count: usize, value: Pair) -> Bench {
 }
 
 // The number, the line and the field of a refusal; zeros where a bench is taken up.
-fn refusal<K: Kind>(line: &[u8]) -> (u8, usize, usize) {
+fn refusal<K: Kind>(line: &[u8]) -> (u8, u32, u32) {
     match take_line::<K>(line) {
         Ok(_) => (0, 0, 0),
         Err(r) => (r.reason.number(), r.line, r.field),

@@ -4,7 +4,6 @@ use entries::Resolved;
 use kinds::fractions::Fractions;
 use number::Pair;
 use record::Refusal;
-use refusal::Numbered;
 use script::{Entry, Number, Operator, Token, Word};
 use std::test::Fail;
 
@@ -28,7 +27,7 @@ fn operator(operator: Operator) -> Entry {
 }
 
 // A pair by its parts, or a refusal by its number, line and field.
-fn told(r: Result<Pair, Refusal>) -> Result<(i64, i64), (u8, usize, usize)> {
+fn told(r: Result<Pair, Refusal>) -> Result<(i64, i64), (u8, u32, u32)> {
     match r {
         Ok(p) => Ok((p.a, p.b)),
         Err(e) => Err((e.reason.number(), e.line, e.field)),

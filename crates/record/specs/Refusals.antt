@@ -28,4 +28,4 @@ reason_of n =
 
 -- a refusal by one of these reasons
 abbrev pub Refusal : Type 0
-Refusal = r.Refusal Reason
+Refusal = r.Refusal Reason ℕ

@@ -58,7 +58,18 @@ pub enum Reason {
 }
 
 // A refusal for one of these reasons.
-pub type Refusal = refusal::Refusal<Reason>;
+pub type Refusal = refusal::Refusal<Reason, u32>;
+
+impl Reason {
+    ghost use Rattle.record.specs.Refusals.{number_of};
+
+    // The number by which a reason is known.
+    pub fn number(self) -> u8
+        ensures { result ≡ number_of self }
+    {
+        self as u8
+    }
+}
 
 impl Numbered for Reason {
     ghost use Rattle.record.specs.Refusals.{number_of as numbers};
@@ -66,7 +77,7 @@ impl Numbered for Reason {
     ghost number_of = { numbers };
 
     fn number(self) -> u8 {
-        self as u8
+        Reason::number(self)
     }
 }
 
@@ -74,5 +85,5 @@ impl Numbered for Reason {
 pub fn refuse(reason: Reason, line: u32, field: u32) -> Refusal
     ensures { result ≡ refused reason line «field» }
 {
-    Refusal::new(reason, line as usize, field as usize)
+    Refusal::new(reason, line, field)
 }

@@ -1,8 +1,8 @@
 // Why and where something is refused.
 #![tactic(auto)]
 
-ghost use Rattle.std.specs.Prelude.{◌≡◌, ℕ, Some};
-ghost use Rattle.refusal.specs.Refusals.{refused, refusal_text};
+ghost use Rattle.std.specs.Prelude.{◌≡◌, ℕ};
+ghost use Rattle.refusal.specs.Refusals.{refused, shown};
 
 use std::fmt;
 
@@ -14,16 +14,16 @@ pub trait Numbered {
         ensures { result ≡ number_of self };
 }
 
-// A refusal for a reason. The line and the field are counted from 1, and 0 where there is none.
+// A refusal for a reason. The line and the field are counted from 1, and 0 where there is none; both are of the type N.
 #[derive(Clone, Copy, PartialEq, Eq, Debug)]
-pub struct Refusal<R> {
+pub struct Refusal<R, N = usize> {
     pub reason: R,
-    pub line: usize,
-    pub field: usize,
+    pub line: N,
+    pub field: N,
 }
 
-impl<R> Refusal<R> {
-    pub fn new(reason: R, line: usize, field: usize) -> Refusal<R>
+impl<R, N> Refusal<R, N> {
+    pub fn new(reason: R, line: N, field: N) -> Refusal<R, N>
         ensures { result ≡ refused reason line «field» }
     {
         Refusal {
@@ -35,8 +35,8 @@ impl<R> Refusal<R> {
 }
 
 // `NUMBER,LINE,FIELD`
-impl<R: Numbered + Copy> fmt::Display for Refusal<R> {
-    ghost output = { λ r. Some (refusal_text (R.Numbered.number_of r.reason) r.line r.field) };
+impl<R: Numbered + Copy, N: fmt::Display + Copy> fmt::Display for Refusal<R, N> {
+    ghost output = { λ r. shown (R.Numbered.number_of r.reason) (N.Display.output r.line) (N.Display.output r.field) };
 
     fn fmt<W: fmt::Write>(&self, f: &mut fmt::Formatter<W>) -> fmt::Result {
         let number = self.reason.number();

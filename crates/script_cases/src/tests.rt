@@ -2,7 +2,6 @@
 ghost use Rattle.std.specs.Prelude.{◌<◌};
 
 use super::*;
-use refusal::Numbered;
 use script::{Cursor, Token, Word};
 use std::process::Abort;
 use std::test::Fail;

@@ -106,9 +106,9 @@ room_same means code laws script few_lines few-values b n room e = by (fits (num
     cut size s = rw e (grind (arith, nat_tests))
 
     by : (x : Bool) → fits (numbers_of means code) script b ≡ x →
-        cond x (cond (leb (length (line_of means b)) n) (Ok (length (line_of means b))) (Err (why BufferTooShort 0 0))) unfit
-        ≡ cond x (cond (leb (length (line_of means b)) room) (Ok (length (line_of means b))) (Err (why BufferTooShort 0 0))) unfit
-    by true f = ap (λ (v : Bool). cond v (Ok (length (line_of means b))) (Err (why BufferTooShort 0 0))) (cut (length (line_of means b)) (short_lines means code laws b (fits_within means code script few_lines few-values b f).0))
+        cond x (cond (leb (length (line_of means b)) n) (Ok (length (line_of means b))) (Err (why {N = ℕ} BufferTooShort 0 0))) unfit
+        ≡ cond x (cond (leb (length (line_of means b)) room) (Ok (length (line_of means b))) (Err (why {N = ℕ} BufferTooShort 0 0))) unfit
+    by true f = ap (λ (v : Bool). cond v (Ok (length (line_of means b))) (Err (why {N = ℕ} BufferTooShort 0 0))) (cut (length (line_of means b)) (short_lines means code laws b (fits_within means code script few_lines few-values b f).0))
     by false f = refl
 
 -- the bench is kept to the sum by every call
