@@ -1,13 +1,12 @@
-use Rattle.std.proofs.Common.{◌≡◌, ℕ, List, [], ◌++◌, take, Some, None, Option, IfSome, ◌∙◌}
-use Rattle.std.specs.Option.{option_map}
+use Rattle.std.proofs.Common.{◌≡◌, length, arith}
+use Rattle.whole_input.proofs.Filled.{cut_to_front}
 use Rattle.whole_input.proofs.read.Goals as goal
 
--- what is appended to nothing from an input that is cut
-taken : (left : Option (List ℕ)) (limit : ℕ) (before after : List ℕ) → limit ≡ 16385 → before ≡ [] → IfSome (option_map (take limit) left) (λ xs. after ≡ before ++ xs) → IfSome left (λ bytes. after ≡ take 16385 bytes)
-taken (Some bytes) limit before after p q h = h ∙ rw (q, p)
-taken None limit before after p q h = tt
+pub returns-clause-few : goal.returns-clause-few
+returns-clause-few g c = omega (arith, c.in_ok-text.ensures.len)
 
-pub returns : goal.returns
-returns g c =
-    let inner = c.take.ensures.inner in
-    rw inner at (taken (g.R.Read.remaining c.take.result.inner) _ _ _ c.take.ensures.limit c.new-text.ensures.items c.in_ok-read_to_end.ensures.bytes)
+pub returns-clause-bytes : goal.returns-clause-bytes
+returns-clause-bytes g c =
+    let lent = c.as_mut_slice.ensures.len in
+    let room : length c.as_mut_slice.result.now ≡ 16385 = omega (arith, c.in_ok-text.ensures.len) in
+    cut_to_front (g.R.Read.remaining c.args.input) c.fill.new.buffer _ _ c.in_ok-n.n _ _ 16385 c.truncate.ensures.items c.fill.auto.buffer lent room c.in_ok-n.ensures.few c.in_ok-n.ensures.bytes
