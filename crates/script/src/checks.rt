@@ -44,11 +44,14 @@ fn note(found: Option<Spot>, b: u8, line: usize, field: usize) -> Option<Spot>
     requires { (line < 18446744073709551615) × (field < 18446744073709551615) }
     ensures { result ≡ noted found b line field }
 {
-    let here = Spot {
+    // a byte behind a stray one is not looked at
+    if found.is_some() || is_allowed(b) {
+        return found;
+    }
+    Some(Spot {
         line: line + 1,
         field: field + 1,
-    };
-    found.or((!is_allowed(b)).then_some(here))
+    })
 }
 
 fn look_over(text: &[u8]) -> Survey
