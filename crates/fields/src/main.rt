@@ -6,6 +6,6 @@ use std::io;
 
 fn main(rt: HostRuntime) -> io::Result<()> {
     let heap = rt.alloc();
-    let text = whole_input::read(heap, rt.stdin())?;
+    let text = whole_input::read_messages(heap, rt.stdin())?;
     rt.write_all(report(heap, &text)?.as_slice())
 }
